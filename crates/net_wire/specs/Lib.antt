@@ -1,0 +1,5 @@
+pub mod Datagram
+pub mod DhcpBytes
+pub mod DhcpMessage
+pub mod Protocol
+pub mod Time

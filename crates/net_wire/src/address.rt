@@ -1,0 +1,29 @@
+//! Addresses of the link and of the network.
+
+/// An Ethernet hardware address, in transmission order (IEEE 802.3, section 3.2.3).
+#[derive(Clone, Copy, Debug, Default, PartialEq, Eq, Hash, PartialOrd, Ord)]
+pub struct EthernetAddress(pub [u8; 6]);
+
+impl EthernetAddress {
+    /// All stations of the link.
+    pub const BROADCAST: EthernetAddress = EthernetAddress([0xff; 6]);
+}
+
+/// An IPv4 address, in network byte order (RFC 791, section 3.2).
+#[derive(Clone, Copy, Debug, Default, PartialEq, Eq, Hash, PartialOrd, Ord)]
+pub struct Ipv4Address(pub [u8; 4]);
+
+impl Ipv4Address {
+    /// No address: a host that has none yet sends from it (RFC 1122, section 3.2.1.3).
+    pub const UNSPECIFIED: Ipv4Address = Ipv4Address([0; 4]);
+
+    /// All hosts of the local network (RFC 919, section 7).
+    pub const BROADCAST: Ipv4Address = Ipv4Address([255; 4]);
+}
+
+/// An IPv4 address and the length of its network's prefix in bits (RFC 4632, section 3.1).
+#[derive(Clone, Copy, Debug, Default, PartialEq, Eq, Hash, PartialOrd, Ord)]
+pub struct Ipv4Cidr {
+    pub address: Ipv4Address,
+    pub prefix_len: u8,
+}

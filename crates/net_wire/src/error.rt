@@ -1,0 +1,35 @@
+//! Answers of the writers and emitters, and what the clients are told of the host.
+use crate::{EthernetAddress, Instant};
+
+/// Memory ran out.
+#[derive(Clone, Copy, Debug, PartialEq, Eq)]
+pub struct NoMemory;
+
+/// Why a message was not emitted.
+#[derive(Clone, Copy, Debug, PartialEq, Eq)]
+pub enum EmitError {
+    /// The hardware address of the next hop is not known.
+    Unresolved,
+    /// Memory ran out.
+    NoMemory,
+}
+
+/// What a client is told of the host at a call.
+#[derive(Clone, Copy, Debug, PartialEq, Eq)]
+pub struct Context {
+    pub now: Instant,
+    pub hardware_addr: EthernetAddress,
+    /// The longest IPv4 datagram that the link carries, in bytes.
+    pub ip_mtu: u16,
+}
+
+impl From<NoMemory> for EmitError {
+    ghost use Rattle.std.specs.Prelude.{◌≡◌};
+    ghost use Rattle.net_wire.specs.declared.error.EmitError.TheVariants as emit;
+
+    ghost from_gives = { λ _ error. error ≡ emit.NoMemory };
+
+    fn from(_: NoMemory) -> EmitError {
+        EmitError::NoMemory
+    }
+}

@@ -1,0 +1,23 @@
+//! The wire formats of the host: time, addresses, and the writers of frames and DHCP messages.
+#![tactic(auto)]
+
+pub mod address;
+pub mod dhcp;
+pub mod error;
+pub mod ethernet;
+pub mod ipv4;
+pub mod laws;
+pub mod protocol;
+#[cfg(test)]
+mod tests;
+pub mod time;
+pub mod udp;
+
+pub use address::{EthernetAddress, Ipv4Address, Ipv4Cidr};
+pub use dhcp::{DhcpMessageType, DhcpOption, DhcpRepr};
+pub use error::{Context, EmitError, NoMemory};
+pub use ethernet::EthernetRepr;
+pub use ipv4::Ipv4Repr;
+pub use protocol::{EthernetProtocol, IpProtocol};
+pub use time::{Duration, Instant};
+pub use udp::{UdpRepr, udp_frame};
