@@ -1,0 +1,4 @@
+pub mod PcapBytes
+pub mod PcapLinkType
+pub mod Sink
+pub mod WriterState
