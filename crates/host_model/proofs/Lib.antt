@@ -1,0 +1,3 @@
+pub mod ChronicleLemmas
+pub mod ClassLemmas
+pub mod ScriptLemmas

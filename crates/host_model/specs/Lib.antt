@@ -1,0 +1,9 @@
+pub mod Anchor
+pub mod Chronicle
+pub mod Due
+pub mod History
+pub mod Lease
+pub mod Named
+pub mod Neighbor
+pub mod Script
+pub mod Settings
