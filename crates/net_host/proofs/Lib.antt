@@ -1,0 +1,13 @@
+pub mod AnchorLemmas
+pub mod CompleteLemmas
+pub mod FrontLemmas
+pub mod HistoryLemmas
+pub mod PlacingLemmas
+pub mod PolledLemmas
+pub mod PollingLemmas
+pub mod ProgressLemmas
+pub mod PushLemmas
+pub mod ReadingLemmas
+pub mod RefusedLemmas
+pub mod ReportLemmas
+pub mod SmallLemmas

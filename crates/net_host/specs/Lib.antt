@@ -1,0 +1,15 @@
+pub mod Agreement
+pub mod Captured
+pub mod Config
+pub mod Emitter
+pub mod Handling
+pub mod HostConfig
+pub mod Polling
+pub mod Reading
+pub mod Report
+pub mod Rows
+pub mod Run
+pub mod RunError
+pub mod Source
+pub mod SureSource
+pub mod Taking

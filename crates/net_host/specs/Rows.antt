@@ -1,0 +1,74 @@
+-- What a report says of the events of a run.
+use Rattle.std.specs.Prelude.{◌≡◌, ℕ, List, [], ◌∷◌, Option, Some, None, pos}
+use Rattle.net_wire.specs.declared.address.EthernetAddress.{EthernetAddress}
+use Rattle.net_wire.specs.Datagram.{Datagram, IsSentFrame}
+use Rattle.net_wire.specs.DhcpBytes.{message_bytes}
+use Rattle.host_model.specs.Script.{Arrival, Tick, Event}
+use Rattle.host_model.specs.Settings.{Settings}
+use Rattle.host_model.specs.History.{Entry, Transmission}
+use Rattle.host_model.specs.Anchor.{anchor_at}
+use Rattle.host_model.specs.Chronicle.{entry_at}
+use Rattle.host_model.specs.Lease.{leased_under}
+use Rattle.host_model.specs.Neighbor.{known_hop}
+use Rattle.net_host.specs.declared.report.Kind.{Kind}
+use Rattle.net_host.specs.declared.report.Kind.TheVariants as kind
+use Rattle.net_host.specs.declared.report.Mark.{Mark}
+use Rattle.net_host.specs.declared.report.Mark.TheVariants.{Dhcp}
+use Rattle.net_host.specs.declared.report.Row.{Row}
+use Rattle.net_host.specs.declared.report.Sent.{Sent}
+
+-- the kind of an event
+abbrev pub kind_of : Arrival → Kind
+kind_of Tick = kind.Tick
+
+-- the frames that are marked as those of the DHCP client
+abbrev pub with_dhcp : Mark → List ℕ → List (List ℕ) → List (List ℕ)
+with_dhcp Dhcp frame frames = frame ∷ frames
+
+abbrev pub dhcp_frames : List Sent → List (List ℕ)
+dhcp_frames [] = []
+dhcp_frames (sent ∷ more) = with_dhcp sent.mark sent.frame (dhcp_frames more)
+
+-- the datagram of a DHCP message, from the client's port to the server's
+abbrev pub datagram_for : Settings → Transmission → Datagram
+datagram_for settings transmission = record {
+  source = transmission.source;
+  destination = transmission.destination;
+  source_port = settings.client_port;
+  destination_port = settings.server_port;
+  payload = message_bytes transmission.message;
+}
+
+-- The one frame of a message, from the host's hardware address to the message's hop, with hop limit 64; without a message
+-- there is none.
+pub record IsFrameOf (settings : Settings) (transmission : Transmission) (frames : List (List ℕ)) : Type 0 where
+  pub hop : EthernetAddress
+  pub frame : List ℕ
+  pub known : known_hop transmission.destination ≡ Some hop
+  pub carries : IsSentFrame settings.hardware hop 64 (datagram_for settings transmission) frame
+  pub one : frames ≡ frame ∷ []
+
+abbrev pub AreFramesOf : Settings → Option Transmission → List (List ℕ) → Type 0
+AreFramesOf settings None frames = frames ≡ []
+AreFramesOf settings (Some transmission) frames = IsFrameOf settings transmission frames
+
+-- The row of an event whose entry is this one: its time and kind, the address that is leased after it, and, marked as
+-- such, the one frame of its DHCP message, or none.
+pub record IsRowOf (settings : Settings) (before : List Entry) (entry : Entry) (row : Row) : Type 0 where
+  pub time : row.at ≡ pos entry.event.at
+  pub kind : row.kind ≡ kind_of entry.event.arrival
+  pub lease : row.lease ≡ leased_under (anchor_at settings before entry.event)
+  pub dhcp : AreFramesOf settings entry.sent (dhcp_frames row.sent)
+
+-- The rows are those of the events, one each, behind the entries `before`.
+abbrev pub AreRowsFrom : Settings → List ℕ → List Entry → List Event → List Row → Type 0
+AreRowsFrom settings words before [] [] = Unit {0}
+AreRowsFrom settings words before [] (row ∷ rows) = ⊥
+AreRowsFrom settings words before (event ∷ events) [] = ⊥
+AreRowsFrom settings words before (event ∷ events) (row ∷ rows) =
+    IsRowOf settings before (entry_at settings words before event) row
+    × AreRowsFrom settings words (entry_at settings words before event ∷ before) events rows
+
+-- the rows are those of a run's events
+abbrev pub AreRows : Settings → List ℕ → List Event → List Row → Type 0
+AreRows settings words events rows = AreRowsFrom settings words [] events rows

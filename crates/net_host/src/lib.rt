@@ -1,0 +1,18 @@
+//! The host: it reads a script of events, and answers each as the definitions of `host_model` say.
+#![tactic(auto)]
+
+pub mod config;
+mod emitter;
+mod host;
+pub mod report;
+pub mod run_script;
+pub mod script;
+pub mod source;
+pub mod sources;
+
+pub use config::{HostConfig, HostConfigError, HostValues};
+pub use report::{Kind, Mark, Report, Row, Sent, SentList};
+pub use run_script::{RunError, run};
+pub use script::{ReadEventError, ScriptEvent};
+pub use source::{ReadFault, ScriptSource};
+pub use sources::{ReadSource, SureSource};

@@ -1,0 +1,164 @@
+//! What a run did, a row an event.
+ghost use Rattle.std.specs.Prelude.{◌≡◌, [], ◌∷◌, ◌++◌, List, OnOk, OnErr};
+ghost use Rattle.net_host.specs.declared.report.Row.{Row};
+ghost use Rattle.net_host.specs.Report.{new_row};
+
+use net_wire::{Instant, Ipv4Cidr, NoMemory};
+use phy_layers::FrameBytes;
+use std::alloc::Global;
+use std::marker::Model;
+
+/// What an event was.
+#[derive(Clone, Copy, Debug, PartialEq, Eq)]
+pub enum Kind {
+    /// Time passed.
+    Tick,
+}
+
+/// What a sent frame is for.
+#[derive(Clone, Copy, Debug, PartialEq, Eq)]
+pub enum Mark {
+    /// It carries a message of the DHCP client.
+    Dhcp,
+}
+
+/// A frame that was sent.
+#[derive(Clone, Debug, Drop)]
+pub struct Sent {
+    pub mark: Mark,
+    pub frame: FrameBytes,
+}
+
+/// Frames in the order in which they were sent.
+#[derive(Clone, Debug, Drop)]
+pub struct SentList {
+    sent: Vec<Sent>,
+}
+
+impl Model for SentList {
+    ghost use Rattle.std.specs.Prelude.{List};
+    ghost use Rattle.net_host.specs.declared.report.Sent.{Sent};
+
+    ghost Value = { List Sent };
+
+    ghost view = { λ list. list.sent.items };
+}
+
+impl SentList {
+    ghost use Rattle.std.specs.Prelude.{◌≡◌, [], ◌∷◌, ◌++◌, OnOk, OnErr};
+
+    /// No frame.
+    pub fn new(alloc: Global) -> SentList
+        ensures { result ≡ [] }
+    {
+        SentList {
+            sent: Vec::new(alloc),
+        }
+    }
+
+    /// The frames.
+    pub fn as_slice(&self) -> &[Sent]
+        ensures { result.now ≡ self.now }
+    {
+        self.sent.as_slice()
+    }
+
+    /// Lists a frame behind the others.
+    pub(crate) fn push(&mut self, sent: Sent) -> Result<(), NoMemory>
+        ensures ok { OnOk result (self.new ≡ self.old ++ sent ∷ []) }
+        ensures err { OnErr result (self.new ≡ self.old) }
+    {
+        match self.sent.push(sent) {
+            Ok(()) => Ok(()),
+            Err(_) => Err(NoMemory),
+        }
+    }
+}
+
+/// What an event brought about.
+#[derive(Clone, Debug, Drop)]
+pub struct Row {
+    /// The time of the event.
+    pub at: Instant,
+    pub kind: Kind,
+    /// The address that is leased after the event, and its network's prefix; `None` without a lease.
+    pub lease: Option<Ipv4Cidr>,
+    /// The frames that were sent.
+    pub sent: SentList,
+}
+
+/// The rows of the events so far, in their order.
+#[derive(Clone, Debug, Drop)]
+pub struct Report {
+    rows: Vec<Row>,
+}
+
+impl Model for Report {
+    ghost use Rattle.std.specs.Prelude.{List};
+    ghost use Rattle.net_host.specs.declared.report.Row.{Row};
+
+    ghost Value = { List Row };
+
+    ghost view = { λ report. report.rows.items };
+}
+
+impl Report {
+    /// No row.
+    pub fn new(alloc: Global) -> Report
+        ensures { result ≡ [] }
+    {
+        Report {
+            rows: Vec::new(alloc),
+        }
+    }
+
+    /// The rows.
+    pub fn rows(&self) -> &[Row]
+        ensures { result.now ≡ self.now }
+    {
+        self.rows.as_slice()
+    }
+
+    /// Places the row of the next event, in which nothing was sent yet and the lease is the one held before it.
+    pub(crate) fn begin(
+        &mut self,
+        alloc: Global,
+        at: Instant,
+        kind: Kind,
+        lease: Option<Ipv4Cidr>,
+    ) -> Result<(), NoMemory>
+        ensures ok { OnOk result (self.new ≡ self.old ++ new_row at kind lease ∷ []) }
+        ensures err { OnErr result (self.new ≡ self.old) }
+    {
+        let row = Row {
+            at,
+            kind,
+            lease,
+            sent: SentList::new(alloc),
+        };
+        match self.rows.push(row) {
+            Ok(()) => Ok(()),
+            Err(_) => Err(NoMemory),
+        }
+    }
+
+    /// Fills the last row in, where there is one.
+    pub(crate) fn fill_last(&mut self, lease: Option<Ipv4Cidr>, sent: SentList)
+        ensures { (rows : List Row) (row : Row) → self.old ≡ rows ++ row ∷ []
+            → self.new ≡ rows ++ record row { lease = lease; sent = sent } ∷ [] }
+    {
+        fill_last(self.rows.as_mut_slice(), lease, sent);
+    }
+}
+
+fn fill_last(rows: &mut [Row], lease: Option<Ipv4Cidr>, sent: SentList)
+    ensures { (before : List Row) (row : Row) → rows.old ≡ before ++ row ∷ []
+        → rows.new ≡ before ++ record row { lease = lease; sent = sent } ∷ [] }
+{
+    let count = rows.len();
+    if count > 0 {
+        let row = &mut rows[count - 1];
+        row.lease = lease;
+        row.sent = sent;
+    }
+}
