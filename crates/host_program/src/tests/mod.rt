@@ -1,0 +1,236 @@
+//! Whole runs, against bytes and texts from outside.
+mod plain;
+
+use crate::host_main::host_main;
+use net_host::{HostConfig, HostValues, Report, RunError, SureSource, run};
+use net_wire::EthernetAddress;
+use phy_layers::{SureSink, WriteSink};
+use plain::{capture_of, discover_frame, packet_record, rows_of, text_of};
+use std::alloc::{AllocError, Global};
+use std::io;
+use std::io::Write;
+use std::test::Fail;
+
+/// What a call of the program left.
+#[derive(Drop)]
+struct Ran {
+    status: u8,
+    printed: Vec<u8>,
+    captured: Vec<u8>,
+    rows: usize,
+}
+
+fn run_program(alloc: Global, words: &[&str], script: &[u8]) -> Result<Ran, AllocError> {
+    let mut args = Vec::new(alloc);
+    for word in words {
+        args.push(String::from_str(alloc, word)?)?;
+    }
+    let mut source = SureSource::new(Vec::from_slice(alloc, script)?);
+    let mut capture = SureSink::new(alloc);
+    let mut out = SureSink::new(alloc);
+    let mut report = Report::new(alloc);
+    let status = host_main(
+        alloc,
+        args.as_slice(),
+        &mut source,
+        &mut capture,
+        &mut out,
+        &mut report,
+    );
+    Ok(Ran {
+        status,
+        printed: Vec::from_slice(alloc, out.bytes())?,
+        captured: Vec::from_slice(alloc, capture.bytes())?,
+        rows: report.rows().len(),
+    })
+}
+
+/// The script of ticks at these times in microseconds.
+fn ticks(alloc: Global, times: &[u64]) -> Result<Vec<u8>, AllocError> {
+    let mut script = Vec::new(alloc);
+    for micros in times {
+        script.push(2)?;
+        script.extend_from_slice(&micros.to_be_bytes())?;
+    }
+    Ok(script)
+}
+
+/// What libpcap's files begin with, little-endian: link type Ethernet.
+const FILE_HEADER: &[u8] =
+    b"\xd4\xc3\xb2\xa1\x02\x00\x04\x00\x00\x00\x00\x00\x00\x00\x00\x00\x00\x00\x04\x00\x01\x00\x00\x00";
+
+#[test]
+fn an_empty_script_is_done(rt: HostRuntime) -> Result<(), Fail> {
+    let ran = run_program(rt.alloc(), &["run", "020202020202", "1", "10"], b"")?;
+    assert_eq!(rt; ran.status, 0);
+    assert_eq!(rt; ran.printed.as_slice(), b"done\n".as_slice());
+    assert_eq!(rt; ran.captured.as_slice(), FILE_HEADER);
+    Ok(())
+}
+
+#[test]
+fn discovers_go_out_every_ten_seconds(rt: HostRuntime) -> Result<(), Fail> {
+    let alloc = rt.alloc();
+    let script = ticks(alloc, &[0, 9_999_999, 10_000_000])?;
+    let ran = run_program(alloc, &["run", "020202020202", "1", "3"], script.as_slice())?;
+    assert_eq!(rt; ran.status, 0);
+    let text = b"0 0.000000 tick lease none
+  sent dhcp 304
+1 9.999999 tick lease none
+2 10.000000 tick lease none
+  sent dhcp 304
+done
+";
+    assert_eq!(rt; ran.printed.as_slice(), text.as_slice());
+    // Ids and checksums by another implementation of the standards.
+    let mut capture = Vec::from_slice(alloc, FILE_HEADER)?;
+    let first = discover_frame(alloc, 0x0004_2021, 0x5855)?;
+    capture.extend_from_slice(packet_record(alloc, 0, first.as_slice())?.as_slice())?;
+    let second = discover_frame(alloc, 0x25b2_331a, 0x1fae)?;
+    capture.extend_from_slice(packet_record(alloc, 10, second.as_slice())?.as_slice())?;
+    assert_eq!(rt; capture.len(), 664);
+    assert_eq!(rt; ran.captured.as_slice(), capture.as_slice());
+    Ok(())
+}
+
+#[test]
+fn scripts_that_stop_a_run(rt: HostRuntime) -> Result<(), Fail> {
+    let alloc = rt.alloc();
+    let mut long = ticks(alloc, &[0])?;
+    long.push(2)?;
+    let unsorted = ticks(alloc, &[1_000_000, 0])?;
+    let cases: [(&str, &[u8], u8, &[u8], usize); 3] = [
+        ("1", long.as_slice(), 3, b"event limit reached\n", 344),
+        ("1", b"\x02\x00", 2, b"script error at 0\n", 24),
+        ("2", unsorted.as_slice(), 2, b"script error at 9\n", 344),
+    ];
+    for (max, script, status, line, captured) in cases {
+        let ran = run_program(alloc, &["run", "020202020202", "1", max], script)?;
+        assert_eq!(rt; ran.status, status);
+        assert!(rt; ran.printed.as_slice().ends_with(line));
+        assert_eq!(rt; ran.captured.len(), captured);
+    }
+    Ok(())
+}
+
+#[test]
+fn words_that_are_refused(rt: HostRuntime) -> Result<(), Fail> {
+    let cases: [&[&str]; 8] = [
+        &[],
+        &["run", "010202020202", "1", "10"],
+        &["run", "0202020202", "1", "10"],
+        &["run", "02020202020g", "1", "10"],
+        &["run", "020202020202", "4294967296", "10"],
+        &["run", "020202020202", "+1", "10"],
+        &["run", "020202020202", "1", "0"],
+        &["run", "020202020202", "1", "10", "mtu=575"],
+    ];
+    for words in cases {
+        let ran = run_program(rt.alloc(), words, b"\x02")?;
+        assert_eq!(rt; ran.status, 1);
+        assert_eq!(rt;
+            ran.printed.as_slice(),
+            b"usage: run HW SEED MAX\n".as_slice()
+        );
+        assert_eq!(rt; ran.captured.len(), 0);
+        assert_eq!(rt; ran.rows, 0);
+    }
+    let ran = run_program(
+        rt.alloc(),
+        &["run", "02ABcdef0202", "0000000001", "00010"],
+        b"",
+    )?;
+    assert_eq!(rt; ran.status, 0, "either case and leading zeros");
+    Ok(())
+}
+
+#[test]
+fn runs_are_those_of_the_plain_core(rt: HostRuntime) -> Result<(), Fail> {
+    let alloc = rt.alloc();
+    let cases: [&[u64]; 4] = [
+        &[0],
+        &[0, 9_999_999, 10_000_000, 19_999_999, 20_000_001],
+        &[
+            5_000_000, 5_000_000, 14_999_999, 15_000_000, 15_000_000, 40_000_000, 49_000_000,
+        ],
+        &[4_294_967_295_999_999],
+    ];
+    for times in cases {
+        let script = ticks(alloc, times)?;
+        let ran = run_program(
+            alloc,
+            &["run", "020202020202", "1", "10"],
+            script.as_slice(),
+        )?;
+        let rows = rows_of(alloc, times, 1)?;
+        assert_eq!(rt; ran.status, 0);
+        assert_eq!(rt;
+            ran.printed.as_slice(),
+            text_of(alloc, rows.as_slice())?.as_slice()
+        );
+        assert_eq!(rt;
+            ran.captured.as_slice(),
+            capture_of(alloc, FILE_HEADER, rows.as_slice())?.as_slice()
+        );
+    }
+    Ok(())
+}
+
+#[test]
+fn two_words_are_too_few_for_an_event(rt: HostRuntime) -> Result<(), Fail> {
+    let alloc = rt.alloc();
+    let values = HostValues {
+        hardware: EthernetAddress([2; 6]),
+        ip_mtu: 1500,
+        retry: Default::default(),
+        server_port: 67,
+        client_port: 68,
+        max_lease: None,
+        ignore_naks: false,
+        parameters: &[1, 3, 6],
+        options: &[],
+    };
+    let config = HostConfig::new(values)?;
+    let mut source = SureSource::new(ticks(alloc, &[0])?);
+    let mut capture = SureSink::new(alloc);
+    let mut report = Report::new(alloc);
+    let answer = run(
+        alloc,
+        &mut source,
+        &mut capture,
+        &config,
+        &[1, 2],
+        1,
+        &mut report,
+    );
+    assert!(rt; answer == Err(RunError::Words));
+    assert_eq!(rt; report.rows().len(), 0);
+    assert_eq!(rt; capture.bytes(), FILE_HEADER);
+    Ok(())
+}
+
+/// A writer that takes all, and fails to hand it on.
+#[derive(Drop)]
+struct StuckWriter;
+
+impl Write for StuckWriter {
+    fn write(&mut self, buf: &[u8]) -> io::Result<usize> {
+        Ok(buf.len())
+    }
+
+    fn flush(&mut self) -> io::Result<()> {
+        Err(io::Error::from(io::ErrorKind::Other))
+    }
+}
+
+#[test]
+fn an_output_that_is_not_handed_on_is_a_fault(rt: HostRuntime) -> Result<(), Fail> {
+    let alloc = rt.alloc();
+    let mut source = SureSource::new(Vec::new(alloc));
+    let mut capture = SureSink::new(alloc);
+    let mut out = WriteSink::new(StuckWriter);
+    let mut report = Report::new(alloc);
+    let status = host_main(alloc, &[], &mut source, &mut capture, &mut out, &mut report);
+    assert_eq!(rt; status, 6);
+    Ok(())
+}
