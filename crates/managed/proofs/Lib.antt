@@ -1,0 +1,5 @@
+pub mod PlacesLemmas
+pub mod SlotLemmas
+pub mod RangeLemmas
+pub mod LawLemmas
+pub mod LoanLemmas

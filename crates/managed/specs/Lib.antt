@@ -1,0 +1,11 @@
+pub mod Storage
+pub mod Loans
+pub mod SortedMap
+pub mod Places
+pub mod SlotTable
+pub mod SlotLinks
+pub mod SlotMap
+pub mod SlotLoans
+pub mod ItemLoans
+pub mod Walk
+pub mod Elements

@@ -1,0 +1,50 @@
+//! What follows from the contracts of the containers, for every map and every table.
+ghost use Rattle.std.specs.Prelude.{◌≡◌, ℕ, ◌+◌, ◌<◌, ◌≤◌, [], List, Option, Some, if◌then◌else◌, slice_set};
+ghost use Rattle.std.specs.Ordering.{is_eq};
+ghost use Rattle.std.specs.BTreeMap.{insert_entry};
+ghost use Rattle.std.specs.BTreeMap.Range.{entries_between, IsLeBy, IsLtBy};
+ghost use Rattle.std.specs.Range.Bound.{IsForward};
+ghost use Rattle.std.specs.declared.ops.Bound.{Bound as BoundOf};
+ghost use Rattle.managed.specs.SortedMap.{value_at, with_pair};
+ghost use Rattle.managed.specs.SlotLoans.{with_element, with_freed};
+ghost use Rattle.managed.specs.SlotMap.{elements_of, places_of};
+ghost use Rattle.managed.specs.declared.slot_map.SlotMap.{SlotMap as SlotMapOf};
+ghost use Rattle.managed.specs.SlotTable.{SlotUse, freed_at, generation_at, generation_later, last_generation, after_steps, hand_outs};
+
+/// After an insert the key has the value, and each other key has what it had, in a borrowed map and in an
+/// owned one.
+pub fn an_inserted_key_is_found<K: Ord, V>()
+    ensures borrowed { (es : List (K × V)) (key : K) (value : V) (other : K)
+        → value_at K.cmp (with_pair K.cmp es key value) other
+        ≡ (if is_eq (K.cmp key other) then Some value else value_at K.cmp es other) }
+    ensures owned { (es : List (K × V)) (key : K) (value : V) (other : K)
+        → value_at K.cmp (insert_entry K.cmp es key value) other
+        ≡ (if is_eq (K.cmp key other) then Some value else value_at K.cmp es other) }
+{}
+
+/// No pair is between bounds that run backwards.
+pub fn a_backward_range_is_empty<K: Ord, V>()
+    ensures { (from to : BoundOf K) (es : List (K × V)) → (IsForward (IsLeBy K.cmp) (IsLtBy K.cmp) from to → ⊥)
+        → entries_between K.cmp from to es ≡ [] }
+{}
+
+/// A key that was taken out finds nothing, whatever is handed out and freed afterwards, until as many keys
+/// as there are generations have been handed out since: `handed` of them so far, its own among them.
+pub fn a_removed_key_finds_nothing()
+    ensures { (u : SlotUse) (place generation handed : ℕ) (steps : List (Option ℕ))
+        → 0 < generation → generation ≤ last_generation → 0 < handed
+        → u.next_generation ≡ generation_later generation handed
+        → (generation_at u place ≡ Some generation → ⊥)
+        → handed + hand_outs steps ≤ last_generation
+        → generation_at (after_steps u steps) place ≡ Some generation → ⊥ }
+{}
+
+/// What is written through a loan of an element lies at the element's place, and nothing else changes but
+/// that a removal frees the place.
+pub fn a_loan_writes_one_element<T>()
+    ensures written { (m : SlotMapOf T) (place : ℕ) (w : T)
+        → elements_of (with_element m place w) ≡ slice_set (elements_of m) place w }
+    ensures places { (m : SlotMapOf T) (place : ℕ) (w : T) → places_of (with_element m place w) ≡ places_of m }
+    ensures freed { (m : SlotMapOf T) (place : ℕ) → places_of (with_freed m place) ≡ freed_at (places_of m) place }
+    ensures others { (m : SlotMapOf T) (place : ℕ) → elements_of (with_freed m place) ≡ elements_of m }
+{}

@@ -1,0 +1,51 @@
+//! The pairs of a map in key order, to write their values.
+ghost use Rattle.std.specs.Prelude.{◌≡◌, length};
+ghost use Rattle.std.specs.Option.{option_map};
+ghost use Rattle.std.specs.Iterator.{at_most};
+ghost use Rattle.std.specs.Map.Iter.{deref_pair_mut};
+ghost use Rattle.managed.specs.Walk.{LendsNext, places_to_pass};
+
+use std::collections::btree_map;
+use std::slice;
+
+/// The pairs that are left, from the front.
+#[derive(Drop)]
+pub enum IterMut<'a, K: Ord, V> {
+    /// The places that are left.
+    Borrowed(slice::IterMut<'a, Option<(K, V)>>),
+    /// The pairs of a tree that are left.
+    Owned(btree_map::IterMut<'a, K, V>),
+}
+
+// The pair of a place.
+fn lend_pair<'a, K, V>(place: &'a mut Option<(K, V)>) -> Option<(&'a K, &'a mut V)>
+    ensures { option_map deref_pair_mut result ≡ place.old }
+{
+    let pair = place.as_mut()?;
+    Some((&pair.0, &mut pair.1))
+}
+
+impl<'a, K: Ord, V> Iterator for IterMut<'a, K, V> {
+    type Item = (&'a K, &'a mut V);
+
+    ghost next_gives = { LendsNext };
+
+    ghost remaining = { λ s. at_most (places_to_pass s) };
+
+    fn next(&mut self) -> Option<(&'a K, &'a mut V)> {
+        match self {
+            IterMut::Borrowed(places) => match places.next() {
+                Some(place) => lend_pair(place),
+                None => None,
+            },
+            IterMut::Owned(pairs) => pairs.next(),
+        }
+    }
+
+    fn size_hint(&self) -> (usize, Option<usize>) {
+        match self {
+            IterMut::Borrowed(places) => (0, Some(places.len())),
+            IterMut::Owned(pairs) => pairs.size_hint(),
+        }
+    }
+}

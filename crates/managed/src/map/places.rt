@@ -1,0 +1,34 @@
+//! Moves among the places of a borrowed map.
+ghost use Rattle.std.specs.Prelude.{◌≡◌, ◌<◌, length, Some, None, slice_index_or};
+ghost use Rattle.managed.specs.Places.{pushed, closed_up};
+
+use std::mem;
+
+// Puts an item before the places, and moves the others up as far as the first empty place.
+pub(super) fn push_along<X: Drop>(places: &mut [Option<X>], item: X)
+    ensures { places.new ≡ pushed (Some item) places.old }
+{
+    let mut carried = Some(item);
+    for place in places.iter_mut() {
+        mem::swap(place, &mut carried);
+        if carried.is_none() {
+            return;
+        }
+    }
+}
+
+// Takes the first place's item out, and moves the items behind it down.
+pub(super) fn take_out<X>(places: &mut [Option<X>]) -> Option<X>
+    requires { 0 < length places.old }
+    ensures value { result ≡ slice_index_or places.old 0 None }
+    ensures rest { places.new ≡ closed_up places.old }
+{
+    let item = places[0].take();
+    for at in 0..places.len() - 1 {
+        if places[at + 1].is_none() {
+            return item;
+        }
+        places.swap(at, at + 1);
+    }
+    item
+}
