@@ -1,0 +1,57 @@
+//! Layouts: the parts of a frame one behind another, by their places.
+
+/// What a part of a frame is.
+#[derive(Clone, Copy, Debug, PartialEq, Eq)]
+pub enum PartKind {
+    Ethernet2,
+    LinuxSll,
+    Vlan,
+    Macsec,
+    Arp,
+    /// An IPv4 or IPv6 header, by its version.
+    Ip,
+    /// IPv6 hop-by-hop options right behind the IPv6 header.
+    HopByHop,
+    /// IPv6 hop-by-hop options anywhere else, which are always refused.
+    LateHopByHop,
+    Route,
+    Fragment,
+    DestinationOptions,
+    Auth,
+    Udp,
+    Tcp,
+    Icmpv4,
+    Icmpv6,
+}
+
+/// The part that comes next, and what the parts before it say of its successors.
+#[derive(Clone, Copy, Debug, PartialEq, Eq)]
+pub struct Turn {
+    pub kind: PartKind,
+    /// How many link extensions (VLAN tags and MACsec headers) stand before it.
+    pub link_exts: u8,
+    /// It stands in the chain of extension headers of an IPv6 packet.
+    pub in_chain: bool,
+    /// What the IP packet carries is a fragment.
+    pub fragmented: bool,
+}
+
+/// Where a part lies: its header from `start` to `body`, and its window, in which the next part is
+/// sought, from `body` to `end`, in bytes from the start of the frame.
+#[derive(Clone, Copy, Debug, PartialEq, Eq)]
+pub struct Place {
+    pub kind: PartKind,
+    pub start: usize,
+    pub body: usize,
+    pub end: usize,
+}
+
+/// The part that was refused, where it would begin, and why.
+#[derive(Clone, Copy, Debug, PartialEq, Eq)]
+pub struct Stop<E> {
+    pub kind: PartKind,
+    /// In bytes from the start of the frame.
+    pub start: usize,
+    /// Counted from the start of the refused part.
+    pub refusal: E,
+}

@@ -1,0 +1,49 @@
+//! Numbers that name what a payload or a field holds.
+
+/// What an Ethernet payload holds (RFC 7042, appendix B).
+#[derive(Clone, Copy, Debug, Default, PartialEq, Eq, Hash, PartialOrd, Ord)]
+pub struct EtherType(pub u16);
+
+impl EtherType {
+    pub const IPV4: EtherType = EtherType(0x0800);
+
+    pub const ARP: EtherType = EtherType(0x0806);
+
+    pub const VLAN_TAGGED_FRAME: EtherType = EtherType(0x8100);
+
+    pub const IPV6: EtherType = EtherType(0x86dd);
+
+    pub const PROVIDER_BRIDGING: EtherType = EtherType(0x88a8);
+
+    pub const MACSEC: EtherType = EtherType(0x88e5);
+
+    pub const VLAN_DOUBLE_TAGGED_FRAME: EtherType = EtherType(0x9100);
+}
+
+/// What an IP payload holds (IANA, "Assigned Internet Protocol Numbers"; RFC 5237).
+#[derive(Clone, Copy, Debug, Default, PartialEq, Eq, Hash, PartialOrd, Ord)]
+pub struct IpNumber(pub u8);
+
+/// The kind of hardware that a link runs on (RFC 826; IANA, "ARP Parameters").
+#[derive(Clone, Copy, Debug, Default, PartialEq, Eq, Hash, PartialOrd, Ord)]
+pub struct ArpHardwareId(pub u16);
+
+/// What an ARP packet is for (RFC 826).
+#[derive(Clone, Copy, Debug, Default, PartialEq, Eq, Hash, PartialOrd, Ord)]
+pub struct ArpOperation(pub u16);
+
+impl ArpOperation {
+    pub const REQUEST: ArpOperation = ArpOperation(1);
+
+    pub const REPLY: ArpOperation = ArpOperation(2);
+}
+
+impl From<u16> for ArpOperation {
+    ghost use Rattle.std.specs.Prelude.{◌≡◌};
+
+    ghost from_gives = { λ number operation. operation ≡ record { 0 = number } };
+
+    fn from(number: u16) -> ArpOperation {
+        ArpOperation(number)
+    }
+}
