@@ -16,7 +16,7 @@ length-range frame start end = omega (arith, length-take (end - start) (drop sta
 pub range_within : (frame : List ℕ) (start end : ℕ) → length (slice_range frame start end) ≤ length frame - start
 range_within frame start end = omega (arith, length-take (end - start) (drop start frame), length-drop start frame)
 
-window-within : (start end : ℕ) (said : Option ℕ) → window_end start end said ≤ end
+pub window-within : (start end : ℕ) (said : Option ℕ) → window_end start end said ≤ end
 window-within start end None = omega arith
 window-within start end (Some said) = omega arith
 

@@ -1,3 +1,6 @@
+pub mod CutLemmas
 pub mod FormLemmas
 pub mod LayoutLemmas
+pub mod LinkLemmas
 mod MacsecLemmas
+pub mod PlaceLemmas

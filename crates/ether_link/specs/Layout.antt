@@ -70,3 +70,15 @@ AreNested start end [] = Unit {0}
 AreNested start end (place ∷ more) =
     (place.start ≡ start) × (start < place.body) × (place.body ≤ place.end) × (place.end ≤ end)
     × AreNested place.body place.end more
+
+-- a place counted from some bytes before
+abbrev pub moved_place : ℕ → Place → Place
+moved_place by place = record place { start = by + place.start; body = by + place.body; end = by + place.end }
+
+abbrev pub moved_places : ℕ → List Place → List Place
+moved_places by [] = []
+moved_places by (place ∷ more) = moved_place by place ∷ moved_places by more
+
+abbrev pub moved_stop : {E : Type 0} → ℕ → Option (Stop E) → Option (Stop E)
+moved_stop by None = None
+moved_stop by (Some stop) = Some (record stop { start = by + stop.start })

@@ -1,6 +1,11 @@
+pub mod Arp
+pub mod Cut
 pub mod Ethernet2
 pub mod Form
 pub mod Layout
+pub mod Link
+pub mod LinkGrammar
+pub mod LinuxSll
 pub mod Macsec
 pub mod Texts
 pub mod Vlan

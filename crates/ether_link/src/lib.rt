@@ -5,19 +5,26 @@
 
 pub mod bounded;
 pub mod err;
+pub mod known_types;
 pub mod laws;
 pub mod layout;
 pub mod len_source;
 pub mod link;
 pub mod numbers;
 
+pub use known_types::ETHERNET_KNOWN_ETHER_TYPES;
 pub use layout::{PartKind, Place, Stop, Turn};
 pub use len_source::LenSource;
+pub use link::arp::{ArpPacket, ArpPacketSlice};
 pub use link::ethernet2::{Ethernet2Header, Ethernet2Slice};
+pub use link::linux_sll::{
+    LinuxSllHeader, LinuxSllPayloadSlice, LinuxSllProtocolType, LinuxSllSlice,
+};
 pub use link::macsec::{MacsecHeader, MacsecHeaderSlice, MacsecPType};
 pub use link::payload::{EtherPayloadSlice, MacsecPayloadSlice};
 pub use link::vlan::{
     DoubleVlanHeader, DoubleVlanSlice, SingleVlanHeader, SingleVlanSlice, VlanHeader, VlanSlice,
 };
 pub use link::vlan_id::VlanId;
+pub use link::{LinkExtHeader, LinkHeader, LinkSlice};
 pub use numbers::{ArpHardwareId, ArpOperation, EtherType, IpNumber};

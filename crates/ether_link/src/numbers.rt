@@ -28,6 +28,22 @@ pub struct IpNumber(pub u8);
 #[derive(Clone, Copy, Debug, Default, PartialEq, Eq, Hash, PartialOrd, Ord)]
 pub struct ArpHardwareId(pub u16);
 
+impl ArpHardwareId {
+    pub const ETHERNET: ArpHardwareId = ArpHardwareId(1);
+    /// Frame relay access devices.
+    pub const FRAD: ArpHardwareId = ArpHardwareId(770);
+
+    pub const LOOPBACK: ArpHardwareId = ArpHardwareId(772);
+    /// Generic routing encapsulation over IPv4.
+    pub const IPGRE: ArpHardwareId = ArpHardwareId(778);
+
+    pub const IEEE80211_RADIOTAP: ArpHardwareId = ArpHardwareId(803);
+    /// Generic routing encapsulation over IPv6.
+    pub const IP6GRE: ArpHardwareId = ArpHardwareId(823);
+
+    pub const NETLINK: ArpHardwareId = ArpHardwareId(824);
+}
+
 /// What an ARP packet is for (RFC 826).
 #[derive(Clone, Copy, Debug, Default, PartialEq, Eq, Hash, PartialOrd, Ord)]
 pub struct ArpOperation(pub u16);
