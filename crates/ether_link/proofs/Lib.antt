@@ -4,3 +4,4 @@ pub mod LayoutLemmas
 pub mod LinkLemmas
 mod MacsecLemmas
 pub mod PlaceLemmas
+pub mod WalkLemmas

@@ -7,7 +7,7 @@ use Rattle.ether_link.specs.Layout.{Grammar, IsOrderly, header}
 use Rattle.ether_link.specs.Macsec.{expected_len}
 use Rattle.ether_link.specs.LinkGrammar.{LinkErrors, link_grammar}
 use Rattle.ether_link.specs.declared.layout.PartKind.{PartKind}
-use Rattle.ether_link.specs.declared.layout.PartKind.TheVariants.{Ethernet2, LinuxSll, Vlan, Macsec, Arp, Ip, HopByHop, LateHopByHop, Route, Fragment, DestinationOptions, Auth, Udp, Tcp, Icmpv4, Icmpv6}
+use Rattle.ether_link.specs.declared.layout.PartKind.TheVariants.{Ethernet2, LinuxSll, Vlan, Macsec, Arp, Ip, HopByHop, LateHopByHop, Route, Fragment, DestinationOptions, Ipv4Auth, Ipv6Auth, Udp, Tcp, Icmpv4, Icmpv6}
 use Rattle.ether_link.proofs.FormLemmas.{has_header}
 
 -- a length that is announced behind a header

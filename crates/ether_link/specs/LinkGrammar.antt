@@ -25,7 +25,7 @@ pub record LinkErrors (E : Type 0) : Type 0 where
 
 -- the turn of a part behind some link extensions
 abbrev pub link_turn : PartKind → ℕ → Option Turn
-link_turn kind held = Some (record { kind = kind; link_exts = held; in_chain = false; fragmented = false })
+link_turn kind held = Some (record { kind = kind; link_exts = held; fragmented = false })
 
 -- at most three link extensions are read
 abbrev pub extension_turn : PartKind → ℕ → Option Turn

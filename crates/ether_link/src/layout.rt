@@ -17,7 +17,10 @@ pub enum PartKind {
     Route,
     Fragment,
     DestinationOptions,
-    Auth,
+    /// An authentication header right behind an IPv4 header.
+    Ipv4Auth,
+    /// An authentication header in the chain of an IPv6 packet.
+    Ipv6Auth,
     Udp,
     Tcp,
     Icmpv4,
@@ -30,8 +33,6 @@ pub struct Turn {
     pub kind: PartKind,
     /// How many link extensions (VLAN tags and MACsec headers) stand before it.
     pub link_exts: u8,
-    /// It stands in the chain of extension headers of an IPv6 packet.
-    pub in_chain: bool,
     /// What the IP packet carries is a fragment.
     pub fragmented: bool,
 }
