@@ -3,5 +3,6 @@ pub mod FormLemmas
 pub mod LayoutLemmas
 pub mod LinkLemmas
 mod MacsecLemmas
+pub mod MapLemmas
 pub mod PlaceLemmas
 pub mod WalkLemmas

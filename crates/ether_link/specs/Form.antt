@@ -1,5 +1,5 @@
 -- How a part of a frame is read, as data: what its first bytes refuse, and how much more its header has.
-use Rattle.std.specs.Prelude.{◌≡◌, ℕ, ◌+◌, ◌≤◌, nat_lt, Bool, true, false, if◌then◌else◌, List, length, take, Option, Some, None, Result, Ok, Err}
+use Rattle.std.specs.Prelude.{◌≡◌, ℕ, ◌+◌, ◌≤◌, nat_lt, Bool, true, false, if◌then◌else◌, List, length, take, Option, Some, None, option_map, Result, Ok, Err}
 use Rattle.ether_link.specs.declared.len_source.LenSource.{LenSource}
 use Rattle.ether_link.specs.declared.len_source.LenSource.TheVariants.{Slice}
 use Rattle.ether_link.specs.declared.err.layers.Layer.{Layer}
@@ -86,3 +86,15 @@ pub record IsSameHeader {E : Type 0} (form : Form E) (bytes more : List ℕ) (n 
 -- a length error that is the whole error
 abbrev pub no_map : LenError → LenError
 no_map error = error
+
+-- the same part, refused by other errors
+pub record IsMapped {E F : Type 0} (f : E → F) (form : Form E) (other : Form F) : Type 0 where
+  pub least : other.least ≡ form.least
+  pub layer : other.layer ≡ form.layer
+  pub early : (head : List ℕ) → other.early head ≡ option_map f (form.early head)
+  pub more : (head : List ℕ) → other.more head ≡ form.more head
+  pub whole : (head : List ℕ) → other.whole head ≡ form.whole head
+  pub source : other.source ≡ form.source
+  pub late : (head : List ℕ) → other.late head ≡ option_map f (form.late head)
+  pub alone : (head : List ℕ) → other.alone head ≡ form.alone head
+  pub wrong_len : (error : LenError) → other.wrong_len error ≡ f (form.wrong_len error)

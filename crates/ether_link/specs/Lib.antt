@@ -7,6 +7,7 @@ pub mod Link
 pub mod LinkGrammar
 pub mod LinuxSll
 pub mod Macsec
+pub mod Places
 pub mod Texts
 pub mod Vlan
 pub mod VlanSlices

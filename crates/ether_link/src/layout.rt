@@ -1,4 +1,7 @@
 //! Layouts: the parts of a frame one behind another, by their places.
+ghost use Rattle.std.specs.Prelude.{◌≡◌};
+
+use crate::err::Layer;
 
 /// What a part of a frame is.
 #[derive(Clone, Copy, Debug, PartialEq, Eq)]
@@ -25,6 +28,33 @@ pub enum PartKind {
     Tcp,
     Icmpv4,
     Icmpv6,
+}
+
+impl PartKind {
+    ghost use Rattle.ether_link.specs.Places.{layer_of_kind};
+
+    /// The layer that a refused part of this kind is called by.
+    pub fn layer(self) -> Layer
+        ensures value { result ≡ layer_of_kind self }
+    {
+        match self {
+            PartKind::Ethernet2 => Layer::Ethernet2Header,
+            PartKind::LinuxSll => Layer::LinuxSllHeader,
+            PartKind::Vlan => Layer::VlanHeader,
+            PartKind::Macsec => Layer::MacsecHeader,
+            PartKind::Arp => Layer::Arp,
+            PartKind::Ip => Layer::IpHeader,
+            PartKind::HopByHop | PartKind::LateHopByHop => Layer::Ipv6HopByHopHeader,
+            PartKind::Route => Layer::Ipv6RouteHeader,
+            PartKind::Fragment => Layer::Ipv6FragHeader,
+            PartKind::DestinationOptions => Layer::Ipv6DestOptionsHeader,
+            PartKind::Ipv4Auth | PartKind::Ipv6Auth => Layer::IpAuthHeader,
+            PartKind::Udp => Layer::UdpHeader,
+            PartKind::Tcp => Layer::TcpHeader,
+            PartKind::Icmpv4 => Layer::Icmpv4,
+            PartKind::Icmpv6 => Layer::Icmpv6,
+        }
+    }
 }
 
 /// The part that comes next, and what the parts before it say of its successors.
