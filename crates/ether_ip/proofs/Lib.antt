@@ -1,0 +1,7 @@
+pub mod ChainLemmas
+mod ExtLemmas
+pub mod HeadersLemmas
+pub mod HeldLemmas
+pub mod IpLemmas
+pub mod TransportLemmas
+pub mod WalkLemmas

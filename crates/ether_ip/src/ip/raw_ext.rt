@@ -1,0 +1,158 @@
+//! Extension headers of IPv6 that give their length in units of 8 bytes: hop-by-hop options, routing
+//! and destination options (RFC 8200, sections 4.3, 4.4 and 4.6).
+ghost use Rattle.std.specs.Prelude.{◌≡◌, ℕ, ◌+◌, ◌*◌, ◌≤◌, ◌↔◌, IsTrue, IfOk, List, length, take, drop, slice_index, nat_eq};
+ghost use Rattle.std.specs.Cmp.Lexicographic.{pointwise, nat_list_eq_equiv};
+ghost use Rattle.std.specs.Cmp.{partial_equiv_from_equiv};
+ghost use Rattle.ether_link.specs.Form.{Reads, header_len, no_map};
+ghost use Rattle.ether_ip.specs.RawExt.{is_raw_ext, raw_ext_layer, raw_ext_form, raw_ext_header};
+
+use arrayvec::ArrayVec;
+use ether_link::bounded::bounded_bytes;
+use ether_link::err::{Layer, LenError};
+use ether_link::{IpNumber, LenSource};
+use std::marker::Model;
+
+/// The fields of a header of hop-by-hop options, routing or destination options.
+#[derive(Clone, Debug, Drop, PartialEq, Eq)]
+pub struct Ipv6RawExtHeader {
+    /// What stands behind the header.
+    pub next_header: IpNumber,
+    /// All behind the byte of the length.
+    pub payload: ArrayVec<u8, 2046>,
+}
+
+/// The bytes of a header of hop-by-hop options, routing or destination options. A contract sees them.
+#[derive(Clone, Debug, Drop)]
+pub struct Ipv6RawExtHeaderSlice<'a> {
+    slice: &'a [u8],
+}
+
+impl<'a> Model for Ipv6RawExtHeaderSlice<'a> {
+    ghost use Rattle.std.specs.Prelude.{ℕ, List};
+    ghost use Rattle.ether_ip.specs.RawExt.{IsRawExt};
+
+    ghost Value = { List ℕ };
+
+    ghost view = { λ part. part.slice.now };
+
+    ghost invariant = { λ part. IsRawExt part.slice.now };
+}
+
+impl<'a> Ipv6RawExtHeaderSlice<'a> {
+    /// The header that a slice begins with, of a number that was given: 0 for hop-by-hop options, 43
+    /// for routing, 60 for destination options.
+    #[tactic(auto, using(ether_link::proofs::FormLemmas::is_header))]
+    pub fn from_slice(
+        ip_number: IpNumber,
+        slice: &'a [u8],
+    ) -> Result<Ipv6RawExtHeaderSlice<'a>, LenError>
+        requires { IsTrue (is_raw_ext ip_number.0) }
+        ensures { Reads (raw_ext_form (raw_ext_layer ip_number.0) no_map) slice.now result
+            (λ part. part
+            ≡ take (header_len (raw_ext_form (raw_ext_layer ip_number.0) no_map) slice.now) slice.now) }
+    {
+        let header_len = accepted_len(layer_of(ip_number), slice)?;
+        Ok(Ipv6RawExtHeaderSlice {
+            slice: &slice[..header_len],
+        })
+    }
+
+    /// The bytes of the header.
+    pub fn slice(&self) -> &'a [u8]
+        ensures value { result.now ≡ self.now }
+    {
+        self.slice
+    }
+
+    pub fn header_len(&self) -> usize
+        ensures value { result ≡ length self.now }
+    {
+        self.slice.len()
+    }
+
+    /// What stands behind the header.
+    pub fn next_header(&self) -> IpNumber
+        ensures value { result.0 ≡ slice_index self.now 0 }
+    {
+        IpNumber(self.slice[0])
+    }
+
+    /// All behind the byte of the length.
+    #[tactic(auto, using(crate::proofs::ExtLemmas::raw_ext_len))]
+    pub fn payload(&self) -> &'a [u8]
+        ensures value { result.now ≡ drop 2 self.now }
+        ensures within { length result.now ≤ 2046 }
+    {
+        let header_len = (usize::from(self.slice[1]) + 1) * 8;
+        &self.slice[2..header_len]
+    }
+
+    pub fn to_header(&self) -> Ipv6RawExtHeader
+        ensures value { result ≡ raw_ext_header self.now }
+    {
+        Ipv6RawExtHeader {
+            next_header: self.next_header(),
+            payload: bounded_bytes(self.payload()),
+        }
+    }
+}
+
+/// The fields of a header.
+pub(crate) fn header_of(bytes: &[u8]) -> Ipv6RawExtHeader
+    requires room { 2 ≤ length bytes.now }
+    requires within { length bytes.now ≤ 2048 }
+    ensures value { result ≡ raw_ext_header bytes.now }
+{
+    Ipv6RawExtHeader {
+        next_header: IpNumber(bytes[0]),
+        payload: bounded_bytes(&bytes[2..]),
+    }
+}
+
+/// The number is that of hop-by-hop options, routing or destination options: 0, 43 or 60.
+pub fn is_raw_ext(ip_number: IpNumber) -> bool
+    ensures value { result ≡ is_raw_ext ip_number.0 }
+{
+    ip_number.0 == 0 || ip_number.0 == 43 || ip_number.0 == 60
+}
+
+/// What the header of a number is.
+fn layer_of(ip_number: IpNumber) -> Layer
+    ensures value { result ≡ raw_ext_layer ip_number.0 }
+{
+    match ip_number.0 {
+        0 => Layer::Ipv6HopByHopHeader,
+        43 => Layer::Ipv6RouteHeader,
+        _ => Layer::Ipv6DestOptionsHeader,
+    }
+}
+
+/// The length of the header that a slice begins with.
+pub(crate) fn accepted_len(layer: Layer, slice: &[u8]) -> Result<usize, LenError>
+    ensures value { Reads (raw_ext_form layer no_map) slice.now result
+        (λ len. len ≡ header_len (raw_ext_form layer no_map) slice.now) }
+    ensures within { IfOk result (λ len. (8 ≤ len) × (len ≤ 2048)) }
+{
+    if slice.len() < 8 {
+        return Err(LenError::at_start(layer, LenSource::Slice, slice.len(), 8));
+    }
+    let header_len = (usize::from(slice[1]) + 1) * 8;
+    if slice.len() < header_len {
+        return Err(LenError::at_start(layer, LenSource::Slice, slice.len(), header_len));
+    }
+    Ok(header_len)
+}
+
+impl<'a> PartialEq for Ipv6RawExtHeaderSlice<'a> {
+    ghost eq = { pointwise nat_eq };
+
+    ghost laws = { partial_equiv_from_equiv nat_list_eq_equiv };
+
+    fn eq(&self, other: &Self) -> bool {
+        self.slice == other.slice
+    }
+}
+
+impl<'a> Eq for Ipv6RawExtHeaderSlice<'a> {
+    ghost laws = { nat_list_eq_equiv };
+}

@@ -1,0 +1,130 @@
+//! Extension headers of known packets.
+
+use crate::ip::raw_ext::is_raw_ext;
+use crate::{
+    IpAuthHeaderSlice, IpFragId, IpFragVersionSpecId, Ipv4ExtensionsSlice, Ipv6ExtensionSlice,
+    Ipv6FragmentHeaderSlice, Ipv6RawExtHeaderSlice,
+};
+use arrayvec::ArrayVec;
+use ether_link::{IpNumber, VlanId};
+use std::test::Fail;
+
+/// An authentication header with a check value of 96 bits, for which the length is 4 (RFC 4302,
+/// section 2.2), in front of ICMP.
+const AUTH: [u8; 24] = [
+    1, 4, 0, 0, 0, 0, 1, 0, 0, 0, 0, 9, 1, 2, 3, 4, 5, 6, 7, 8, 9, 10, 11, 12,
+];
+
+/// The option "router alert" (RFC 2711, section 2.1) and two bytes of padding, in front of ICMPv6.
+const ROUTER_ALERT: [u8; 8] = [58, 0, 5, 2, 0, 0, 1, 0];
+
+/// A routing header of type 2, of 24 bytes (RFC 6275, section 6.4.1), up to its home address.
+const ROUTING: [u8; 8] = [59, 2, 2, 1, 0, 0, 0, 0];
+
+#[test]
+fn a_check_value_of_96_bits_has_length_4(rt: HostRuntime) -> Result<(), Fail> {
+    let auth = IpAuthHeaderSlice::from_slice(&AUTH).ok().ok_or("refused")?;
+    assert_eq!(rt; auth.slice(), AUTH.as_slice());
+    assert_eq!(rt; auth.icv(), &AUTH[12..]);
+    let extensions = Ipv4ExtensionsSlice { auth: Some(auth) };
+    let fields = extensions.to_header().auth.ok_or("no header")?;
+    assert_eq!(rt;
+        (fields.next_header, fields.spi, fields.sequence_number),
+        (IpNumber(1), 256, 9)
+    );
+    assert_eq!(rt; fields.icv.len(), 12);
+    Ok(())
+}
+
+#[test]
+fn lengths_count_eight_bytes(rt: HostRuntime) -> Result<(), Fail> {
+    let mut packet = [0; 32];
+    packet[..8].copy_from_slice(&ROUTER_ALERT);
+    let options = Ipv6RawExtHeaderSlice::from_slice(IpNumber(0), &packet)?;
+    assert_eq!(rt; options.to_header().next_header, IpNumber(58));
+    assert_eq!(rt; options.payload(), &ROUTER_ALERT[2..]);
+    assert_eq!(rt; Ipv6ExtensionSlice::HopByHop(options).slice().len(), 8);
+    packet[..8].copy_from_slice(&ROUTING);
+    let routing = Ipv6RawExtHeaderSlice::from_slice(IpNumber(43), &packet)?;
+    assert_eq!(rt;
+        (routing.next_header(), routing.header_len()),
+        (IpNumber(59), 24)
+    );
+    assert_eq!(rt; routing.to_header().payload.len(), 22);
+    Ok(())
+}
+
+#[test]
+fn six_numbers_are_told_apart(rt: HostRuntime) {
+    for (number, is_one) in [
+        (0, true),
+        (43, true),
+        (44, false),
+        (51, false),
+        (59, false),
+        (60, true),
+    ] {
+        assert_eq!(rt; is_raw_ext(IpNumber(number)), is_one, "number {number}");
+    }
+}
+
+/// A packet of 1452 bytes behind its header, cut for links of 1500 bytes: 1448 bytes, then 4. And a
+/// packet that is whole in spite of its fragment header (RFC 6946).
+#[test]
+fn fragments_count_eight_bytes(rt: HostRuntime) -> Result<(), Fail> {
+    for (start, offset, more, fragmented) in [
+        ([17, 0, 0x00, 0x01], 0, true, true),
+        ([17, 0, 0x05, 0xa8], 1448, false, true),
+        ([17, 0, 0x00, 0x00], 0, false, false),
+        ([17, 0, 0x00, 0x06], 0, false, false),
+    ] {
+        let bytes = [
+            start[0], start[1], start[2], start[3], 0xde, 0xad, 0xbe, 0xef,
+        ];
+        let fragment = Ipv6FragmentHeaderSlice::from_slice(&bytes)?;
+        let fields = fragment.to_header();
+        assert_eq!(rt;
+            (fields.next_header, fields.identification),
+            (IpNumber(17), 0xdead_beef)
+        );
+        assert_eq!(rt;
+            u32::from(fields.fragment_offset) * 8,
+            offset,
+            "for {start:?}"
+        );
+        assert_eq!(rt; fields.more_fragments, more, "for {start:?}");
+        assert_eq!(rt;
+            fragment.is_fragmenting_payload(),
+            fragmented,
+            "for {start:?}"
+        );
+    }
+    Ok(())
+}
+
+/// The id of a fragment from a channel.
+fn id_of<C>(channel_id: C) -> IpFragId<C>
+where
+    C: std::hash::Hash + Eq + Clone,
+{
+    let mut vlan_ids = ArrayVec::new();
+    let _fits = vlan_ids.try_push(VlanId::of_low_bits(5));
+    IpFragId {
+        vlan_ids,
+        ip: IpFragVersionSpecId::Ipv4 {
+            source: [10, 0, 0, 1],
+            destination: [10, 0, 0, 2],
+            identification: 111,
+        },
+        payload_ip_number: IpNumber(17),
+        channel_id,
+    }
+}
+
+#[test]
+fn fragments_of_two_channels_differ(rt: HostRuntime) -> Result<(), Fail> {
+    assert!(rt; id_of(()).clone()? == id_of(()));
+    assert!(rt; id_of(1u8).clone()? == id_of(1));
+    assert!(rt; id_of(1u8) != id_of(2));
+    Ok(())
+}
