@@ -19,7 +19,7 @@ use Rattle.ether_ip.specs.declared.err.ipv6_exts.HeaderSliceError.{HeaderSliceEr
 use Rattle.ether_ip.specs.declared.ip.exts.Ipv6Extensions.{Ipv6Extensions}
 use Rattle.ether_ip.proofs.WalkLemmas.{IsExtensionWalk, extensions_begun, extensions_stopped, extensions_go_on, extensions_ended, place_here}
 
-extension_positive : {E : Type 0} (errors : ExtensionErrors E) (kind : PartKind) (bytes : List ℕ)
+pub extension_positive : {E : Type 0} (errors : ExtensionErrors E) (kind : PartKind) (bytes : List ℕ)
     → refusal (extension_form_of errors kind) bytes ≡ None → 0 < header_len (extension_form_of errors kind) bytes
 extension_positive errors HopByHop bytes accepted = omega arith
 extension_positive errors Route bytes accepted = omega arith

@@ -67,7 +67,7 @@ module _ {E : Type 0} (wrong_len : LenError → E) (wrong : ip.HeaderError → E
       let whole : 1 + (4 * ihl bytes - 1) ≡ 4 * ihl bytes = omega arith in
       rw (head_byte 1 bytes (omega arith), is) whole
 
-  len_of_six : ip_version bytes ≡ 6 → header_len (ip_form wrong_len wrong) bytes ≡ 40
+  pub len_of_six : ip_version bytes ≡ 6 → header_len (ip_form wrong_len wrong) bytes ≡ 40
   len_of_six is = rw (head_byte 1 bytes (omega arith), is) refl
 
 module _ {E F : Type 0} (wrong_len : LenError → E) (wrong : ip.HeaderError → E) (len : LenError → F) (content : ipv4.HeaderError → F)

@@ -3,5 +3,6 @@ mod ExtLemmas
 pub mod HeadersLemmas
 pub mod HeldLemmas
 pub mod IpLemmas
+pub mod PacketLemmas
 pub mod TransportLemmas
 pub mod WalkLemmas

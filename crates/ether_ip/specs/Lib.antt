@@ -15,9 +15,11 @@ pub mod IpWindow
 pub mod Ipv4
 pub mod Ipv6
 pub mod LaxHeader
+pub mod PacketGrammar
 pub mod RawExt
 pub mod Tcp
 pub mod TextsIp
+pub mod TextsPacket
 pub mod TextsTransport
 pub mod Transport
 pub mod Udp

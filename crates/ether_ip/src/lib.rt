@@ -4,6 +4,8 @@
 
 pub mod err;
 pub mod ip;
+pub mod laws;
+pub mod net_headers;
 #[cfg(test)]
 mod tests;
 pub mod transport;
@@ -24,6 +26,7 @@ pub use ip::reassembly::{
     IpDefragPayloadVec, IpFragId, IpFragVersionSpecId, MAX_IP_DEFRAG_LEN, MAX_IP_DEFRAG_LEN_U16,
 };
 pub use ip::window::{IpWindow, ip_window};
+pub use net_headers::NetHeaders;
 pub use transport::icmp_echo::IcmpEchoHeader;
 pub use transport::icmpv4::{
     Icmpv4Header, Icmpv4Slice, Icmpv4Type, RedirectCode, RedirectHeader, TimestampMessage,
