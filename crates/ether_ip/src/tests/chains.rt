@@ -198,12 +198,13 @@ fn ipv4_reads_one_authentication_header(rt: HostRuntime) -> Result<(), Fail> {
 fn an_empty_payload_may_be_told_or_not(rt: HostRuntime) -> Result<(), Fail> {
     let mut bytes = packet(59, [0; 3]);
     bytes[5] = 0;
-    let (_, payload, _) = IpHeaders::from_slice_lax(&bytes[..40])?;
+    let (header, one_more) = (&bytes[..40], &bytes[..41]);
+    let (_, payload, _) = IpHeaders::from_slice_lax(header)?;
     assert_eq!(rt;
         (payload.payload.len(), payload.len_source),
         (0, LenSource::Ipv6HeaderPayloadLen)
     );
-    let (_, payload, _) = IpHeaders::from_slice_lax(&bytes[..41])?;
+    let (_, payload, _) = IpHeaders::from_slice_lax(one_more)?;
     assert_eq!(rt;
         (payload.payload.len(), payload.len_source),
         (1, LenSource::Slice)
