@@ -9,7 +9,8 @@ use Rattle.ether_link.specs.declared.layout.Place.{Place}
 use Rattle.ether_link.specs.declared.layout.Stop.{Stop}
 use Rattle.ether_link.specs.declared.layout.PartKind.{PartKind}
 use Rattle.ether_link.proofs.FormLemmas.{has_header}
-use Rattle.ether_link.proofs.WalkLemmas.{IsWalk, begun, one_more, ended, stopped, header_is, end_of_headers-one_more}
+use Rattle.ether_link.proofs.WalkLemmas.{IsWalk, begun, one_more, ended, stopped, end_of_headers-one_more}
+use Rattle.ether_link.proofs.RangeLemmas.{header_is}
 use Rattle.ether_ip.specs.ExtensionGrammar.{extension_grammar, extension_form_of, kind_behind, turn_to, fragmented_behind}
 use Rattle.ether_ip.specs.Chain.{number_behind, is_fragmented, chain_errors}
 use Rattle.ether_ip.specs.declared.err.ipv6_exts.HeaderSliceError.{HeaderSliceError}

@@ -1,40 +1,16 @@
 -- The first bytes of a frame have the front of its layout.
-use Rattle.std.proofs.Common.{◌≡◌, ℕ, zero, suc, ◌+◌, ◌-◌, ◌<◌, ◌≤◌, ◌⊎◌, min, Bool, true, false, cond, List, [], ◌∷◌, length, take, drop, Option, Some, None, refl, sym, ap, ◌∙◌, arith}
+use Rattle.std.proofs.Common.{◌≡◌, ℕ, ◌+◌, ◌-◌, ◌≤◌, min, Bool, true, false, List, [], ◌∷◌, take, Option, Some, None, refl, sym, ap, ◌∙◌, arith}
 use Rattle.std.specs.Prelude.{nat_lt, slice_range}
 use Rattle.std.proofs.lemmas.Bool.Decides.{nat_tests}
-use Rattle.std.proofs.lemmas.List.{length-take, take-take, take_all, drop-take}
 use Rattle.ether_link.specs.declared.layout.PartKind.{PartKind}
 use Rattle.ether_link.specs.declared.layout.Turn.{Turn}
 use Rattle.ether_link.specs.declared.layout.Place.{Place}
 use Rattle.ether_link.specs.declared.layout.Stop.{Stop}
-use Rattle.ether_link.specs.Form.{Form, header_len, refusal, IsSameHeader}
+use Rattle.ether_link.specs.Form.{header_len, refusal, IsSameHeader}
 use Rattle.ether_link.specs.Layout.{Grammar, header, window_end, place_of, IsLayoutFrom}
 use Rattle.ether_link.specs.Cut.{cut_places, IsCuttable, proper}
-use Rattle.ether_link.proofs.FormLemmas.{has_header, same_part, kept_part}
-
-take_shorter : (i j : ℕ) (l : List ℕ) (b : Bool) → nat_lt i j ≡ b → take i (take j l) ≡ take (min i j) l
-take_shorter i j l true is =
-    let fits : i ≤ j = grind (arith, nat_tests) in
-    let least : min i j ≡ i = omega arith in
-    rw least (take-take i j l fits)
-take_shorter i j l false is =
-    let fits : j ≤ i = grind (arith, nat_tests) in
-    let least : min i j ≡ j = omega arith in
-    rw least (take_all i (take j l) (omega (arith, length-take j l)))
-
-take_both : (i j : ℕ) (l : List ℕ) → take i (take j l) ≡ take (min i j) l
-take_both i j l = take_shorter i j l (nat_lt i j) refl
-
--- a window of the first n bytes is the front of a window
-pub range_cut : (frame : List ℕ) (n start end : ℕ) → start ≤ n
-    → slice_range (take n frame) start (min end n) ≡ take (n - start) (slice_range frame start end)
-range_cut frame n start end within =
-    let at_n : start + (n - start) ≡ n = omega arith in
-    let moved : drop start (take n frame) ≡ take (n - start) (drop start frame) = rw at_n at (drop-take start (n - start) frame) in
-    let left = take_both (min end n - start) (n - start) (drop start frame) in
-    let right = take_both (n - start) (end - start) (drop start frame) in
-    let lens : min (min end n - start) (n - start) ≡ min (n - start) (end - start) = omega arith in
-    rw moved (left ∙ (rw lens (sym right)))
+use Rattle.ether_link.proofs.FormLemmas.{same_part, kept_part}
+use Rattle.ether_link.proofs.RangeLemmas.{range_cut}
 
 end_cut : (start end n : ℕ) (said : Option ℕ) → window_end start (min end n) said ≡ min (window_end start end said) n
 end_cut start end n None = refl

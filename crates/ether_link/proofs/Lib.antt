@@ -5,4 +5,5 @@ pub mod LinkLemmas
 mod MacsecLemmas
 pub mod MapLemmas
 pub mod PlaceLemmas
+pub mod RangeLemmas
 pub mod WalkLemmas

@@ -1,13 +1,13 @@
 -- The parts of the link layer are in order.
-use Rattle.std.proofs.Common.{◌≡◌, ℕ, ◌+◌, ◌<◌, ◌≤◌, min, List, length, take, Option, Some, None, refl, sym, arith}
+use Rattle.std.proofs.Common.{◌≡◌, ℕ, ◌+◌, ◌<◌, ◌≤◌, List, length, Option, Some, None, arith}
 use Rattle.std.specs.Prelude.{option_map}
 use Rattle.std.proofs.lemmas.List.{length-take-le}
-use Rattle.ether_link.specs.Form.{Form, header_len, refusal}
+use Rattle.ether_link.specs.Form.{header_len, refusal}
 use Rattle.ether_link.specs.Layout.{Grammar, IsOrderly, header}
 use Rattle.ether_link.specs.Macsec.{expected_len}
 use Rattle.ether_link.specs.LinkGrammar.{LinkErrors, link_grammar}
 use Rattle.ether_link.specs.declared.layout.PartKind.{PartKind}
-use Rattle.ether_link.specs.declared.layout.PartKind.TheVariants.{Ethernet2, LinuxSll, Vlan, Macsec, Arp, Ip, HopByHop, LateHopByHop, Route, Fragment, DestinationOptions, Ipv4Auth, Ipv6Auth, Udp, Tcp, Icmpv4, Icmpv6}
+use Rattle.ether_link.specs.declared.layout.PartKind.TheVariants.{Ethernet2, LinuxSll, Vlan, Macsec, Arp}
 use Rattle.ether_link.proofs.FormLemmas.{has_header}
 
 -- a length that is announced behind a header

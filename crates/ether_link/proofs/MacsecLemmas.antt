@@ -1,5 +1,5 @@
 -- What an accepted security tag says of its short length.
-use Rattle.std.proofs.Common.{◌≡◌, ℕ, ◌<◌, ◌≤◌, Bool, true, false, cond, List, length, take, get_or, Option, Some, None, refl, sym, arith}
+use Rattle.std.proofs.Common.{◌≡◌, ℕ, true, List, take, get_or, arith}
 use Rattle.std.proofs.lemmas.List.{get_or-take}
 use Rattle.std.specs.Prelude.{◌≢◌}
 use Rattle.ether_link.specs.Form.{IsHeader}

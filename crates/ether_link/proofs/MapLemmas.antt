@@ -1,8 +1,7 @@
 -- A part that is refused by other errors is refused where it was.
-use Rattle.std.proofs.Common.{◌≡◌, ℕ, ◌+◌, Bool, true, false, cond, List, length, take, Option, Some, None, refl, sym, ap, ◌∙◌}
+use Rattle.std.proofs.Common.{◌≡◌, ℕ, Bool, true, false, cond, List, length, take, Option, Some, None, refl, ap, ◌∙◌}
 use Rattle.std.specs.Prelude.{nat_lt, option_map}
 use Rattle.ether_link.specs.declared.err.layers.Layer.{Layer}
-use Rattle.ether_link.specs.declared.err.length.LenError.{LenError}
 use Rattle.ether_link.specs.declared.len_source.LenSource.{LenSource}
 use Rattle.ether_link.specs.declared.len_source.LenSource.TheVariants.{Slice}
 use Rattle.ether_link.specs.Form.{Form, or_else, len_error, short, long, header_len, refusal, IsMapped}

@@ -1,32 +1,13 @@
 -- A layout of a window is one of the frame.
-use Rattle.std.proofs.Common.{◌≡◌, ℕ, ◌+◌, ◌-◌, ◌<◌, ◌≤◌, min, Bool, true, false, List, [], ◌∷◌, take, drop, Option, Some, None, refl, sym, ap, ◌∙◌, arith}
-use Rattle.std.specs.Prelude.{nat_lt, slice_range}
-use Rattle.std.proofs.lemmas.Bool.Decides.{nat_tests}
-use Rattle.std.proofs.lemmas.List.{take-take, drop-take, drop-drop}
+use Rattle.std.proofs.Common.{◌≡◌, ℕ, ◌+◌, ◌-◌, ◌≤◌, List, [], ◌∷◌, Option, Some, None, refl, ap, ◌∙◌, arith}
+use Rattle.std.specs.Prelude.{slice_range}
 use Rattle.ether_link.specs.declared.layout.Turn.{Turn}
 use Rattle.ether_link.specs.declared.layout.Place.{Place}
 use Rattle.ether_link.specs.declared.layout.Stop.{Stop}
 use Rattle.ether_link.specs.Form.{header_len}
 use Rattle.ether_link.specs.Layout.{Grammar, header, window_end, place_of, IsLayoutFrom, moved_place, moved_places, moved_stop}
 use Rattle.ether_link.proofs.LayoutLemmas.{window-within}
-
-range_by : (frame : List ℕ) (from to start end : ℕ) → end ≤ to - from → (b : Bool) → nat_lt (to - from) start ≡ b
-    → slice_range (slice_range frame from to) start end ≡ slice_range frame (from + start) (from + end)
-range_by frame from to start end within true is =
-    let none : end - start ≡ 0 = grind (arith, nat_tests) in
-    let none_moved : from + end - (from + start) ≡ 0 = omega arith in
-    rw (none, none_moved) refl
-range_by frame from to start end within false is =
-    let at_start : start + (to - from - start) ≡ to - from = grind (arith, nat_tests) in
-    let fits : end - start ≤ to - from - start = omega arith in
-    let same_len : from + end - (from + start) ≡ end - start = omega arith in
-    let dropped = rw at_start at (drop-take start (to - from - start) (drop from frame)) in
-    rw (same_len, dropped, take-take (end - start) (to - from - start) (drop start (drop from frame)) fits, drop-drop start from frame) refl
-
--- a range of a range
-pub range_range : (frame : List ℕ) (from to start end : ℕ) → end ≤ to - from
-    → slice_range (slice_range frame from to) start end ≡ slice_range frame (from + start) (from + end)
-range_range frame from to start end within = range_by frame from to start end within (nat_lt (to - from) start) refl
+use Rattle.ether_link.proofs.RangeLemmas.{range_range}
 
 window-moved : (by start end : ℕ) (said : Option ℕ) → window_end (by + start) (by + end) said ≡ by + window_end start end said
 window-moved by start end None = refl

@@ -1,21 +1,13 @@
 -- What a reader knows that walks along the parts of a frame.
-use Rattle.std.proofs.Common.{◌≡◌, ℕ, ◌+◌, ◌-◌, ◌≤◌, List, [], ◌∷◌, ◌++◌, length, take, drop, Option, Some, None, refl, sym, arith}
+use Rattle.std.proofs.Common.{◌≡◌, ℕ, List, [], ◌∷◌, ◌++◌, Option, Some, None, refl}
 use Rattle.std.specs.Prelude.{slice_range}
-use Rattle.std.proofs.lemmas.List.{append-nil, append_assoc, length-take, take-take}
+use Rattle.std.proofs.lemmas.List.{append-nil, append_assoc}
 use Rattle.ether_link.specs.declared.layout.Turn.{Turn}
 use Rattle.ether_link.specs.declared.layout.Place.{Place}
 use Rattle.ether_link.specs.declared.layout.Stop.{Stop}
 use Rattle.ether_link.specs.Form.{refusal}
 use Rattle.ether_link.specs.Places.{end_of_headers}
 use Rattle.ether_link.specs.Layout.{Grammar, header, place_of, IsLayoutFrom}
-
--- the header that a window begins with, by its place
-pub header_is : (frame : List ℕ) (start end len : ℕ) → len ≤ length (slice_range frame start end)
-    → take len (slice_range frame start end) ≡ slice_range frame start (start + len)
-header_is frame start end len there =
-    let room : len ≤ end - start = omega (arith, length-take (end - start) (drop start frame)) in
-    let same : start + len - start ≡ len = omega arith in
-    rw (same, take-take len (end - start) (drop start frame) room) refl
 
 pub end_of_headers-one_more : (from : ℕ) (places : List Place) (place : Place) → end_of_headers from (places ++ place ∷ []) ≡ place.body
 end_of_headers-one_more from [] place = refl

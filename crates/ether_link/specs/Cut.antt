@@ -1,6 +1,5 @@
 -- What the first bytes of a frame leave of its layout.
-use Rattle.std.specs.Prelude.{◌≡◌, ℕ, nat_lt, Bool, true, false, not, if◌then◌else◌, min, List, [], ◌∷◌, filter, Option, None}
-use Rattle.ether_link.specs.Form.{Form}
+use Rattle.std.specs.Prelude.{◌≡◌, ℕ, nat_lt, Bool, true, false, if◌then◌else◌, min, List, [], ◌∷◌, None}
 use Rattle.ether_link.specs.Layout.{Grammar}
 use Rattle.ether_link.specs.declared.layout.PartKind.{PartKind}
 use Rattle.ether_link.specs.declared.layout.Turn.{Turn}

@@ -1,5 +1,5 @@
 -- How a part of a frame is read, as data: what its first bytes refuse, and how much more its header has.
-use Rattle.std.specs.Prelude.{◌≡◌, ℕ, ◌+◌, ◌≤◌, nat_lt, Bool, true, false, if◌then◌else◌, List, length, take, Option, Some, None, option_map, Result, Ok, Err}
+use Rattle.std.specs.Prelude.{◌≡◌, ℕ, ◌+◌, ◌≤◌, nat_lt, Bool, false, if◌then◌else◌, List, length, take, Option, Some, None, option_map, Result, Ok, Err}
 use Rattle.ether_link.specs.declared.len_source.LenSource.{LenSource}
 use Rattle.ether_link.specs.declared.len_source.LenSource.TheVariants.{Slice}
 use Rattle.ether_link.specs.declared.err.layers.Layer.{Layer}

@@ -1,5 +1,5 @@
 -- The layout of a frame: the parts that stand in it one behind another, each where the one before it ends.
-use Rattle.std.specs.Prelude.{◌≡◌, ℕ, ◌+◌, ◌<◌, ◌≤◌, min, List, [], ◌∷◌, length, take, slice_range, Option, Some, None}
+use Rattle.std.specs.Prelude.{◌≡◌, ℕ, ◌+◌, ◌<◌, ◌≤◌, min, List, [], ◌∷◌, take, slice_range, Option, Some, None}
 use Rattle.ether_link.specs.Form.{Form, header_len, refusal}
 use Rattle.ether_link.specs.declared.layout.PartKind.{PartKind}
 use Rattle.ether_link.specs.declared.layout.Turn.{Turn}

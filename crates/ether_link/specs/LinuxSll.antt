@@ -1,5 +1,5 @@
 -- The header of a packet in a Linux cooked capture (LINKTYPE_LINUX_SLL of the link-layer header types).
-use Rattle.std.specs.Prelude.{◌≡◌, ℕ, ◌==◌, nat_lt, Bool, ◌||◌, if◌then◌else◌, List, Option, Some, None, option_map}
+use Rattle.std.specs.Prelude.{ℕ, ◌==◌, nat_lt, Bool, ◌||◌, if◌then◌else◌, List, Option, Some, None, option_map}
 use Rattle.wire_base.specs.Bytes.{bytes_between, be16_at}
 use Rattle.ether_link.specs.Form.{Form, or_else, never_refused, nothing_more, never_alone}
 use Rattle.ether_link.specs.declared.len_source.LenSource.TheVariants.{Slice}

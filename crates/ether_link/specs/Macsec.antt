@@ -1,5 +1,5 @@
 -- The security tag of a MACsec frame (IEEE 802.1AE, sections 9.3 to 9.9).
-use Rattle.std.specs.Prelude.{ℕ, ◌+◌, ◌-◌, ◌%◌, ◌==◌, Bool, not, ◌&&◌, ◌||◌, if◌then◌else◌, List, length, slice_index, Option, Some, None}
+use Rattle.std.specs.Prelude.{ℕ, ◌+◌, ◌-◌, ◌%◌, ◌==◌, Bool, not, ◌&&◌, if◌then◌else◌, List, length, slice_index, Option, Some, None}
 use Rattle.wire_base.specs.Bytes.{be16_at, be32_at, be64_at, flag_at}
 use Rattle.ether_link.specs.Form.{Form, never_alone}
 use Rattle.ether_link.specs.declared.len_source.LenSource.TheVariants.{Slice}
