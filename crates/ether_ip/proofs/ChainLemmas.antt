@@ -1,10 +1,10 @@
 -- Readers of extension headers refuse what the headers' own readers refuse.
-use Rattle.std.proofs.Common.{◌≡◌, ℕ, Bool, true, false, cond, List, take, get_or, Option, Some, None, refl, sym, ap, ◌∙◌}
+use Rattle.std.proofs.Common.{◌≡◌, ℕ, Bool, true, false, cond, List, get_or, Some, None, refl}
 use Rattle.std.specs.Prelude.{◌==◌, option_map}
-use Rattle.ether_link.specs.Form.{Form, header_len, refusal, no_map, IsMapped}
+use Rattle.ether_link.specs.Form.{refusal, no_map, IsMapped}
 use Rattle.ether_link.specs.declared.err.layers.Layer.{Layer}
 use Rattle.ether_link.specs.declared.err.length.LenError.{LenError}
-use Rattle.ether_link.specs.declared.layout.PartKind.TheVariants.{Ipv4Auth, Ipv6Auth}
+use Rattle.ether_link.specs.declared.layout.PartKind.TheVariants.{Ipv6Auth}
 use Rattle.ether_link.proofs.MapLemmas.{accepts-mapped, refuses-mapped}
 use Rattle.ether_ip.specs.Auth.{auth_slice_form}
 use Rattle.ether_ip.specs.Fragment.{fragment_form}

@@ -1,5 +1,5 @@
 -- What the reader of all headers of a packet knows, over plain values.
-use Rattle.std.proofs.Common.{◌≡◌, ℕ, ◌≤◌, Bool, List, length, take, Option, None, refl, sym, subst}
+use Rattle.std.proofs.Common.{◌≡◌, ℕ, Bool, List, length, take, Option, None, sym, subst}
 use Rattle.std.proofs.lemmas.List.{length-take-le}
 use Rattle.ether_link.specs.Form.{header_len, refusal}
 use Rattle.ether_link.specs.Layout.{window_end}

@@ -1,23 +1,23 @@
 -- What a reader knows that puts extension headers into their places.
-use Rattle.std.proofs.Common.{◌≡◌, ℕ, ◌+◌, ◌≤◌, ◌<◌, Bool, true, false, cond, List, [], ◌∷◌, ◌++◌, Option, Some, None, refl, sym, ap, ◌∙◌, arith}
-use Rattle.std.specs.Prelude.{slice_range, slice_index}
+use Rattle.std.proofs.Common.{◌≡◌, ℕ, ◌<◌, Bool, true, false, List, [], ◌∷◌, ◌++◌, Option, Some, None, refl, sym, ap, ◌∙◌, arith}
+use Rattle.std.specs.Prelude.{slice_range}
 use Rattle.std.proofs.lemmas.List.{append-nil, append_assoc}
 use Rattle.ether_link.specs.Form.{header_len, refusal}
-use Rattle.ether_link.specs.Layout.{IsLayoutFrom, HasLayout, IsOrderly, header}
-use Rattle.ether_link.specs.Places.{header_at, end_of_headers}
+use Rattle.ether_link.specs.Layout.{IsLayoutFrom, IsOrderly}
+use Rattle.ether_link.specs.Places.{header_at}
 use Rattle.ether_link.specs.declared.layout.Place.{Place}
 use Rattle.ether_link.specs.declared.layout.Stop.{Stop}
 use Rattle.ether_link.specs.declared.layout.PartKind.{PartKind}
-use Rattle.ether_link.specs.declared.layout.PartKind.TheVariants.{HopByHop, LateHopByHop, Route, Fragment, DestinationOptions, Ipv4Auth, Ipv6Auth}
+use Rattle.ether_link.specs.declared.layout.PartKind.TheVariants.{HopByHop, Route, Fragment, DestinationOptions, Ipv4Auth, Ipv6Auth}
 use Rattle.ether_link.proofs.FormLemmas.{no_early}
 use Rattle.ether_link.proofs.LayoutLemmas.{some}
-use Rattle.ether_ip.specs.ExtensionGrammar.{ExtensionErrors, extension_grammar, extension_form_of, kind_behind, turn_to, fragmented_behind}
-use Rattle.ether_ip.specs.Chain.{chain_errors, number_behind, is_fragmented}
-use Rattle.ether_ip.specs.Held.{no_extensions, is_taken, with_header, held_by, free_places, unless_taken, free_stop}
+use Rattle.ether_ip.specs.ExtensionGrammar.{ExtensionErrors, extension_grammar, extension_form_of, turn_to}
+use Rattle.ether_ip.specs.Chain.{chain_errors}
+use Rattle.ether_ip.specs.Held.{no_extensions, is_taken, with_header, held_by, free_places, free_stop}
 use Rattle.ether_ip.specs.HeldWalk.{IsHeldEnd}
 use Rattle.ether_ip.specs.declared.err.ipv6_exts.HeaderSliceError.{HeaderSliceError}
 use Rattle.ether_ip.specs.declared.ip.exts.Ipv6Extensions.{Ipv6Extensions}
-use Rattle.ether_ip.proofs.WalkLemmas.{IsExtensionWalk, extensions_begun, extensions_stopped, extensions_go_on, extensions_ended, place_here}
+use Rattle.ether_ip.proofs.WalkLemmas.{IsExtensionWalk, extensions_stopped, extensions_ended}
 
 pub extension_positive : {E : Type 0} (errors : ExtensionErrors E) (kind : PartKind) (bytes : List ℕ)
     → refusal (extension_form_of errors kind) bytes ≡ None → 0 < header_len (extension_form_of errors kind) bytes

@@ -1,5 +1,5 @@
 -- The parts of a packet are in order, and can be cut.
-use Rattle.std.proofs.Common.{◌≡◌, ℕ, ◌+◌, ◌<◌, ◌≤◌, Bool, true, false, cond, List, length, take, get_or, Option, Some, None, refl, sym, ap, ◌∙◌, arith}
+use Rattle.std.proofs.Common.{◌≡◌, ℕ, ◌+◌, ◌<◌, ◌≤◌, Bool, true, false, cond, List, length, take, get_or, Some, None, refl, arith}
 use Rattle.std.specs.Prelude.{◌≢◌, ◌==◌, nat_lt}
 use Rattle.std.proofs.lemmas.Bool.Decides.{nat_tests}
 use Rattle.std.proofs.lemmas.List.{length-take-le, get_or-take}
@@ -14,7 +14,7 @@ use Rattle.ether_link.proofs.FormLemmas.{has_header}
 use Rattle.ether_link.proofs.LinkLemmas.{orderly_link}
 use Rattle.ether_ip.specs.Version.{ip_version}
 use Rattle.ether_ip.specs.Ip.{ip_form}
-use Rattle.ether_ip.specs.IpWindow.{ip_announced, ipv4_announced, ipv6_announced}
+use Rattle.ether_ip.specs.IpWindow.{ip_announced}
 use Rattle.ether_ip.specs.PacketGrammar.{ip_grammar, packet_grammar, packet_link_errors, packet_extension_errors, is_icmp}
 use Rattle.ether_ip.specs.declared.err.packet.SliceError.TheVariants.{Len, Ip, Tcp}
 use Rattle.ether_ip.proofs.HeldLemmas.{extension_positive}

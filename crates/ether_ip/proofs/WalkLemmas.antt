@@ -1,12 +1,11 @@
 -- What a reader knows that walks along extension headers.
-use Rattle.std.proofs.Common.{◌≡◌, ℕ, ◌+◌, ◌-◌, ◌<◌, ◌≤◌, Bool, false, List, [], ◌∷◌, ◌++◌, length, take, drop, Option, Some, None, refl, sym, ap, ◌∙◌, arith}
+use Rattle.std.proofs.Common.{◌≡◌, ℕ, ◌+◌, ◌-◌, ◌≤◌, Bool, List, [], ◌∷◌, ◌++◌, length, drop, Option, Some, None, refl, sym, ap, ◌∙◌, arith}
 use Rattle.std.specs.Prelude.{slice_range, slice_index}
 use Rattle.std.proofs.lemmas.List.{length-take, length-drop}
 use Rattle.ether_link.specs.Form.{header_len, refusal}
 use Rattle.ether_link.specs.Layout.{IsLayoutFrom, place_of}
 use Rattle.ether_link.specs.Places.{header_at, end_of_headers}
 use Rattle.ether_link.specs.declared.layout.Place.{Place}
-use Rattle.ether_link.specs.declared.layout.Stop.{Stop}
 use Rattle.ether_link.specs.declared.layout.PartKind.{PartKind}
 use Rattle.ether_link.proofs.FormLemmas.{has_header}
 use Rattle.ether_link.proofs.WalkLemmas.{IsWalk, begun, one_more, ended, stopped, end_of_headers-one_more}

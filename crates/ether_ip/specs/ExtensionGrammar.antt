@@ -1,5 +1,5 @@
 -- How the extension headers of an IP packet follow one another (RFC 4302, section 3.1; RFC 8200, sections 4 and 4.1).
-use Rattle.std.specs.Prelude.{ℕ, ◌≤◌, ◌==◌, Bool, false, ◌||◌, if◌then◌else◌, List, slice_index, Option, Some, None}
+use Rattle.std.specs.Prelude.{ℕ, ◌≤◌, ◌==◌, Bool, ◌||◌, if◌then◌else◌, List, slice_index, Option, Some, None}
 use Rattle.ether_link.specs.Form.{Form, never_refused, nothing_more, never_alone}
 use Rattle.ether_link.specs.Layout.{Grammar}
 use Rattle.ether_link.specs.Places.{layer_of_kind}

@@ -1,5 +1,5 @@
 -- The window of an IP packet: where its payload ends, and what says so (RFC 791, section 3.1; RFC 8200, section 3).
-use Rattle.std.specs.Prelude.{ℕ, ◌+◌, ◌==◌, nat_lt, Bool, if◌then◌else◌, List, length, Option, Some, None}
+use Rattle.std.specs.Prelude.{ℕ, ◌+◌, ◌==◌, nat_lt, if◌then◌else◌, List, length, Option, Some, None}
 use Rattle.wire_base.specs.Bytes.{be16_at}
 use Rattle.ether_link.specs.declared.len_source.LenSource.{LenSource}
 use Rattle.ether_link.specs.declared.len_source.LenSource.TheVariants.{Slice, Ipv4HeaderTotalLen, Ipv6HeaderPayloadLen}

@@ -1,6 +1,5 @@
-use Rattle.std.proofs.Common.{◌≡◌, [], ◌∷◌, ◌++◌, false, sym}
+use Rattle.std.proofs.Common.{[], ◌∷◌, ◌++◌, sym}
 use Rattle.ether_link.specs.declared.layout.Place.{Place}
-use Rattle.ether_ip.specs.Held.{no_extensions}
 use Rattle.ether_ip.proofs.HeldLemmas.{none_taken, one_more_free, held_ended, held_stopped, held_taken}
 use Rattle.ether_ip.proofs.WalkLemmas.{extensions_begun, extensions_go_on, place_here}
 use Rattle.ether_ip.proofs.ip.held.held_end.Goals as goal
