@@ -9,7 +9,6 @@ use crate::{
     LinkSlice, LinuxSllProtocolType, LinuxSllSlice, MacsecHeaderSlice, MacsecPType,
     MacsecPayloadSlice, SingleVlanHeader, SingleVlanSlice, VlanHeader, VlanId, VlanSlice, laws,
 };
-use std::marker::PhantomData;
 use std::test::Fail;
 
 /// An ARP request of 10.0.0.1 for 10.0.0.2 in an Ethernet frame.
@@ -276,12 +275,12 @@ fn plain_values_are_there(rt: HostRuntime) {
 
 #[test]
 fn laws_can_be_called() {
-    laws::some_layout(&ARP_FRAME, PhantomData::<LenError>);
-    laws::one_layout(&ARP_FRAME, PhantomData::<LenError>);
-    laws::layouts_are_nested(&ARP_FRAME, PhantomData::<LenError>);
-    laws::link_parts_are_orderly(PhantomData::<LenError>);
-    laws::same_part(&ARP_FRAME, 20, PhantomData::<LenError>);
-    laws::kept_part(&ARP_FRAME, 20, PhantomData::<LenError>);
-    laws::layout_in_place(&ARP_FRAME, 14, 42, PhantomData::<LenError>);
-    laws::cut_law(&ARP_FRAME, 20, PhantomData::<LenError>);
+    laws::some_layout::<LenError>(&ARP_FRAME);
+    laws::one_layout::<LenError>(&ARP_FRAME);
+    laws::layouts_are_nested::<LenError>(&ARP_FRAME);
+    laws::link_parts_are_orderly::<LenError>();
+    laws::same_part::<LenError>(&ARP_FRAME, 20);
+    laws::kept_part::<LenError>(&ARP_FRAME, 20);
+    laws::layout_in_place::<LenError>(&ARP_FRAME, 14, 42);
+    laws::cut_law::<LenError>(&ARP_FRAME, 20);
 }
