@@ -1,5 +1,6 @@
-//! The parts of a frame above the link layer: IP headers of both versions with their extension headers,
-//! TCP, UDP and both versions of ICMP, each with one reader that gives the part or the first refusal.
+//! The parts of a frame above the link layer: IP headers of both versions with their extension
+//! headers, TCP, UDP and both versions of ICMP, each with one reader that gives the part or the first
+//! refusal.
 #![tactic(auto)]
 
 pub mod err;

@@ -28,17 +28,28 @@ arp_form wrong_len = record {
   wrong_len = wrong_len;
 }
 
--- its fields
+-- the addresses, one behind the other
+abbrev pub sender_hw_addr : List ℕ → List ℕ
+sender_hw_addr bytes = bytes_between 8 (8 + hw_size bytes) bytes
+
+abbrev pub sender_protocol_addr : List ℕ → List ℕ
+sender_protocol_addr bytes = bytes_between (8 + hw_size bytes) (8 + hw_size bytes + protocol_size bytes) bytes
+
+abbrev pub target_hw_addr : List ℕ → List ℕ
+target_hw_addr bytes = bytes_between (8 + hw_size bytes + protocol_size bytes) (8 + 2 * hw_size bytes + protocol_size bytes) bytes
+
+abbrev pub target_protocol_addr : List ℕ → List ℕ
+target_protocol_addr bytes =
+    bytes_between (8 + 2 * hw_size bytes + protocol_size bytes) (8 + 2 * hw_size bytes + 2 * protocol_size bytes) bytes
+
+-- the fields
 abbrev pub arp_packet : List ℕ → ArpPacket
-arp_packet bytes =
-    let h = hw_size bytes in
-    let p = protocol_size bytes in
-    record {
-      hw_addr_type = record { 0 = be16_at bytes 0 };
-      proto_addr_type = record { 0 = be16_at bytes 2 };
-      operation = record { 0 = be16_at bytes 6 };
-      sender_hw_addr = record { items = bytes_between 8 (8 + h) bytes };
-      sender_protocol_addr = record { items = bytes_between (8 + h) (8 + h + p) bytes };
-      target_hw_addr = record { items = bytes_between (8 + h + p) (8 + 2 * h + p) bytes };
-      target_protocol_addr = record { items = bytes_between (8 + 2 * h + p) (8 + 2 * h + 2 * p) bytes };
-    }
+arp_packet bytes = record {
+  hw_addr_type = record { 0 = be16_at bytes 0 };
+  proto_addr_type = record { 0 = be16_at bytes 2 };
+  operation = record { 0 = be16_at bytes 6 };
+  sender_hw_addr = record { items = sender_hw_addr bytes };
+  sender_protocol_addr = record { items = sender_protocol_addr bytes };
+  target_hw_addr = record { items = target_hw_addr bytes };
+  target_protocol_addr = record { items = target_protocol_addr bytes };
+}

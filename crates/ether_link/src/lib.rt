@@ -1,6 +1,6 @@
-//! The parts of a frame up to the link layer: Ethernet II, VLAN tags, MACsec, Linux cooked captures and
-//! ARP, each with one reader that gives the part or the first refusal, and what all parts of a frame
-//! have in common: how a part is read as data, and the layouts of parts one behind another.
+//! The parts of a frame up to the link layer: Ethernet II, VLAN tags, MACsec, Linux cooked captures
+//! and ARP, each with one reader that gives the part or the first refusal, and what all parts of a
+//! frame have in common: how a part is read as data, and the layouts of parts one behind another.
 #![tactic(auto)]
 
 pub mod bounded;

@@ -36,7 +36,8 @@ pub(crate) fn first_extension_kind(number: IpNumber) -> Option<PartKind>
     }
 }
 
-/// The extension header that a number names behind another one; behind an IPv4 header there is one at most.
+/// The extension header that a number names behind another one; behind an IPv4 header there is one at
+/// most.
 pub(crate) fn extension_behind(kind: PartKind, number: IpNumber) -> Option<PartKind>
     ensures { result ≡ kind_behind kind number.0 }
 {
@@ -83,7 +84,8 @@ pub(crate) struct ChainEnd {
 
 /// Reads extension headers up to the first one that is refused, or to a number that names none.
 pub(crate) fn chain_end(start: IpNumber, bytes: &[u8]) -> ChainEnd
-    ensures value { (places : List Place) × IsChainEnd bytes.now start.0 result.at result.number.0 result.fragmented result.stop places }
+    ensures value { (places : List Place)
+        × IsChainEnd bytes.now start.0 result.at result.number.0 result.fragmented result.stop places }
 {
     let (mut at, mut number, mut fragmented) = (0, start, false);
     let mut named = first_extension_kind(start);

@@ -18,9 +18,9 @@ pub struct Ipv6ExtensionsSlice<'a> {
 impl<'a> Ipv6ExtensionsSlice<'a> {
     ghost use Rattle.ether_ip.specs.ChainSlice.{IsChainOf, first_header_of, bytes_of_extensions, is_fragmenting};
 
-    /// The extension headers from a number on, as far as none is refused. Then come the number of what is behind them, the bytes
-    /// behind them, and the refusal of the header that stands there, whose offset counts from the slice. Number 0 is that of the
-    /// first header alone.
+    /// The extension headers from a number on, as far as none is refused. Then come the number of what
+    /// is behind them, the bytes behind them, and the refusal of the header that stands there, whose
+    /// offset counts from the slice. Number 0 is that of the first header alone.
     pub fn from_slice_lax(
         start: IpNumber,
         slice: &'a [u8],

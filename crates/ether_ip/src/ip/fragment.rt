@@ -118,7 +118,8 @@ pub(crate) fn header_of(bytes: &[u8]) -> Ipv6FragmentHeader
 
 /// The length of the header that a slice begins with.
 pub(crate) fn accepted_len(slice: &[u8]) -> Result<usize, LenError>
-    ensures value { Reads (fragment_form no_map) slice.now result (λ len. len ≡ header_len (fragment_form no_map) slice.now) }
+    ensures value { Reads (fragment_form no_map) slice.now result
+        (λ len. len ≡ header_len (fragment_form no_map) slice.now) }
     ensures within { IfOk result (λ len. len ≡ 8) }
 {
     if slice.len() < 8 {

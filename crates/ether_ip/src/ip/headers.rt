@@ -18,8 +18,9 @@ use ether_link::{IpNumber, LenSource, PartKind};
 use wire_base::number::{read_be16, read_flag};
 
 impl IpHeaders {
-    /// The headers that a packet begins with, and what they leave of it. The extension headers are read up to the first one that
-    /// is refused or whose place is taken by one before it; the refusal counts from the start of the packet.
+    /// The headers that a packet begins with, and what they leave of it. The extension headers are
+    /// read up to the first one that is refused or whose place is taken by one before it; the refusal
+    /// counts from the start of the packet.
     pub fn from_slice_lax(
         slice: &[u8],
     ) -> Result<
@@ -30,7 +31,8 @@ impl IpHeaders {
         ),
         LaxHeaderSliceError,
     >
-        ensures value { Reads ip_slice_form slice.now result (λ read. IsReadOf slice.now read.0 read.1 read.2) }
+        ensures value { Reads ip_slice_form slice.now result
+            (λ read. IsReadOf slice.now read.0 read.1 read.2) }
     {
         let header_len = ip_header_len(slice)?;
         let header = &slice[..header_len];
@@ -122,7 +124,8 @@ fn headers_with(header: &[u8], held: Ipv6Extensions) -> IpHeaders
     }
 }
 
-/// The refusal of an extension header that begins at a place of a packet, in a window whose length is from `len_source`.
+/// The refusal of an extension header that begins at a place of a packet, in a window whose length is
+/// from `len_source`.
 fn refusal_in(
     is_ipv4: bool,
     len_source: LenSource,

@@ -28,7 +28,8 @@ pub(crate) struct HeldEnd {
     pub(crate) stop: Option<Stop<HeaderSliceError>>,
 }
 
-/// Reads extension headers into their places, up to the first one that is refused or whose place is taken.
+/// Reads extension headers into their places, up to the first one that is refused or whose place is
+/// taken.
 pub(crate) fn held_end(
     packet: &[u8],
     end: usize,

@@ -46,7 +46,7 @@ impl<'a> Model for ArpPacketSlice<'a> {
 }
 
 impl<'a> ArpPacketSlice<'a> {
-    ghost use Rattle.ether_link.specs.Arp.{arp_packet, hw_size, protocol_size};
+    ghost use Rattle.ether_link.specs.Arp.{arp_packet, sender_hw_addr, sender_protocol_addr, target_hw_addr, target_protocol_addr};
 
     /// The packet that a slice begins with.
     #[tactic(auto, using(crate::proofs::FormLemmas::is_header))]
@@ -102,7 +102,7 @@ impl<'a> ArpPacketSlice<'a> {
     }
 
     pub fn sender_hw_addr(&self) -> &'a [u8]
-        ensures value { result.now ≡ bytes_between 8 (8 + hw_size self.now) self.now }
+        ensures value { result.now ≡ sender_hw_addr self.now }
         ensures within { length result.now ≤ 255 }
     {
         let hw_size = usize::from(self.slice[4]);
@@ -110,7 +110,7 @@ impl<'a> ArpPacketSlice<'a> {
     }
 
     pub fn sender_protocol_addr(&self) -> &'a [u8]
-        ensures value { result.now ≡ bytes_between (8 + hw_size self.now) (8 + hw_size self.now + protocol_size self.now) self.now }
+        ensures value { result.now ≡ sender_protocol_addr self.now }
         ensures within { length result.now ≤ 255 }
     {
         let start = 8 + usize::from(self.slice[4]);
@@ -118,7 +118,7 @@ impl<'a> ArpPacketSlice<'a> {
     }
 
     pub fn target_hw_addr(&self) -> &'a [u8]
-        ensures value { result.now ≡ bytes_between (8 + hw_size self.now + protocol_size self.now) (8 + 2 * hw_size self.now + protocol_size self.now) self.now }
+        ensures value { result.now ≡ target_hw_addr self.now }
         ensures within { length result.now ≤ 255 }
     {
         let hw_size = usize::from(self.slice[4]);
@@ -127,7 +127,7 @@ impl<'a> ArpPacketSlice<'a> {
     }
 
     pub fn target_protocol_addr(&self) -> &'a [u8]
-        ensures value { result.now ≡ bytes_between (8 + 2 * hw_size self.now + protocol_size self.now) (8 + 2 * hw_size self.now + 2 * protocol_size self.now) self.now }
+        ensures value { result.now ≡ target_protocol_addr self.now }
         ensures within { length result.now ≤ 255 }
     {
         let protocol_size = usize::from(self.slice[5]);
@@ -152,7 +152,8 @@ impl<'a> ArpPacketSlice<'a> {
 
 /// The length of the packet that a slice begins with.
 fn accepted_len(slice: &[u8]) -> Result<usize, LenError>
-    ensures { Reads (arp_form no_map) slice.now result (λ len. len ≡ header_len (arp_form no_map) slice.now) }
+    ensures { Reads (arp_form no_map) slice.now result
+        (λ len. len ≡ header_len (arp_form no_map) slice.now) }
 {
     if slice.len() < 8 {
         return Err(LenError::at_start(Layer::Arp, LenSource::Slice, slice.len(), 8));

@@ -120,7 +120,8 @@ impl<'a> LinuxSllSlice<'a> {
     }
 
     pub fn protocol_type(&self) -> LinuxSllProtocolType
-        ensures value { Some result ≡ protocol_type_of (be16_at self.now 2) (be16_at self.now 14) }
+        ensures value { Some result
+            ≡ protocol_type_of (be16_at self.now 2) (be16_at self.now 14) }
     {
         match protocol_type(self.arp_hrd_type(), read_be16(self.slice, 14)) {
             Some(protocol_type) => protocol_type,
@@ -136,7 +137,8 @@ impl<'a> LinuxSllSlice<'a> {
 
     pub fn payload(&self) -> LinuxSllPayloadSlice<'a>
         ensures value { result.payload.now ≡ drop 16 self.now }
-        ensures protocol_type { Some result.protocol_type ≡ protocol_type_of (be16_at self.now 2) (be16_at self.now 14) }
+        ensures protocol_type { Some result.protocol_type
+            ≡ protocol_type_of (be16_at self.now 2) (be16_at self.now 14) }
     {
         LinuxSllPayloadSlice {
             protocol_type: self.protocol_type(),

@@ -206,7 +206,8 @@ impl<'a> MacsecHeaderSlice<'a> {
 
 /// The length of the tag that a slice begins with.
 fn accepted_len(slice: &[u8]) -> Result<usize, HeaderSliceError>
-    ensures { Reads macsec_slice_form slice.now result (λ len. len ≡ header_len macsec_slice_form slice.now) }
+    ensures { Reads macsec_slice_form slice.now result
+        (λ len. len ≡ header_len macsec_slice_form slice.now) }
 {
     let wrong_len = |required_len: usize| {
         let (layer, source) = (Layer::MacsecHeader, LenSource::Slice);

@@ -177,7 +177,8 @@ impl<'a> DoubleVlanSlice<'a> {
     }
 
     pub fn to_header(&self) -> DoubleVlanHeader
-        ensures value { result ≡ record { outer = vlan_header self.now.outer; inner = vlan_header self.now.inner } }
+        ensures value { result
+            ≡ record { outer = vlan_header self.now.outer; inner = vlan_header self.now.inner } }
     {
         DoubleVlanHeader {
             outer: self.outer.to_header(),

@@ -3,7 +3,8 @@ ghost use Rattle.std.specs.Prelude.{◌≡◌, ℕ, ◌%◌, ◌<◌, ◌↔◌,
 
 use std::marker::Model;
 
-/// The number of a virtual network, at most 4095 (IEEE 802.1Q, section 9.6). A contract sees the number.
+/// The number of a virtual network, at most 4095 (IEEE 802.1Q, section 9.6). A contract sees the
+/// number.
 #[derive(Clone, Copy, Debug, PartialEq, Eq, Hash, PartialOrd, Ord)]
 pub struct VlanId {
     number: u16,
