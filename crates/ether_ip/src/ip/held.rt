@@ -42,8 +42,7 @@ pub(crate) fn held_end(
         result.held result.behind.at result.behind.number.0 result.behind.fragmented result.stop }
 {
     let mut held = none_held();
-    let mut behind = before;
-    let mut named = first;
+    let (mut behind, mut named) = (before, first);
     while let Some(kind) = named {
         if is_taken(kind, &held) {
             return HeldEnd {
@@ -68,13 +67,12 @@ pub(crate) fn held_end(
             Ok(len) => {
                 let header = &packet[behind.at..behind.at + len];
                 put(&mut held, kind, header);
-                let number = IpNumber(header[0]);
                 behind = Behind {
                     at: behind.at + len,
-                    number,
+                    number: IpNumber(header[0]),
                     fragmented: is_fragmented_behind(kind, behind.fragmented, header),
                 };
-                named = extension_behind(kind, number);
+                named = extension_behind(kind, behind.number);
             }
         }
     }
