@@ -3,3 +3,4 @@ pub mod SlotLemmas
 pub mod RangeLemmas
 pub mod LawLemmas
 pub mod LoanLemmas
+pub mod LoanLaws
