@@ -4,3 +4,4 @@ pub mod RangeLemmas
 pub mod LawLemmas
 pub mod LoanLemmas
 pub mod LoanLaws
+pub mod VariantLoans
