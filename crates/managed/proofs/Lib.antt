@@ -5,3 +5,4 @@ pub mod LawLemmas
 pub mod LoanLemmas
 pub mod LoanLaws
 pub mod VariantLoans
+pub mod LiveLemmas

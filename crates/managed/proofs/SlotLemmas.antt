@@ -3,8 +3,8 @@ use Rattle.std.proofs.Common.{◌≡◌, ◌⊎◌, ℕ, zero, suc, ◌+◌, ◌
 use Rattle.std.specs.Option.{is_some}
 use Rattle.std.proofs.lemmas.Bool.{cases_lt}
 use Rattle.std.proofs.lemmas.Bool.Decides.{nat_tests}
-use Rattle.managed.specs.SlotTable.{last_generation, generation_after, IsFullTable, handed_out, freed_at}
-use Rattle.managed.specs.SlotLinks.{generation_of, generation_in, link_in, freed_from, IsAbsent, IsFreeList, in_use, IsSound, use_of}
+use Rattle.managed.specs.SlotTable.{IsAbsent, last_generation, generation_after, IsFullTable, handed_out, freed_at}
+use Rattle.managed.specs.SlotLinks.{generation_of, generation_in, link_in, freed_from, IsFreeList, in_use, IsSound, use_of}
 use Rattle.managed.specs.declared.slot_key.SlotIndex.{SlotIndex}
 use Rattle.managed.specs.declared.slot_key.SlotState.TheVariants.{Free, InUse}
 
