@@ -40,6 +40,11 @@ module _ {K V : Type 0} where
   places_to_pass (write.TheVariants.Borrowed places) = length (places_rest places)
   places_to_pass (write.TheVariants.Owned pairs) = length (tree_rest pairs)
 
+  -- how many pairs there are for sure: those of a tree
+  abbrev pub pairs_to_pass : write.IterMut K V → ℕ
+  pairs_to_pass (write.TheVariants.Borrowed places) = 0
+  pairs_to_pass (write.TheVariants.Owned pairs) = length (tree_rest pairs)
+
   -- the pairs of a range that are left
   abbrev pub span_left : span.Span K V → List (K × V)
   span_left (span.TheVariants.Borrowed places) = filled places.now

@@ -1,9 +1,10 @@
 //! The pairs of a map in key order, to write their values.
-ghost use Rattle.std.specs.Prelude.{◌≡◌, length};
+ghost use Rattle.std.specs.Prelude.{◌≡◌, Some, IfSome, length};
 ghost use Rattle.std.specs.Option.{option_map};
-ghost use Rattle.std.specs.Iterator.{at_most};
+ghost use Rattle.std.specs.Iterator.{at_most, UpTo};
+ghost use Rattle.std.specs.Iterator.SizeHint.{IsWithinCount};
 ghost use Rattle.std.specs.Map.Iter.{deref_pair_mut};
-ghost use Rattle.managed.specs.Walk.{LendsNext, places_to_pass};
+ghost use Rattle.managed.specs.Walk.{LendsNext, pairs_to_pass, places_to_pass};
 
 use std::collections::btree_map;
 use std::slice;
@@ -42,10 +43,19 @@ impl<'a, K: Ord, V> Iterator for IterMut<'a, K, V> {
         }
     }
 
-    fn size_hint(&self) -> (usize, Option<usize>) {
+    /// The number of pairs that are left in a tree. Among places it is not known, and no more than the places
+    /// that are not yet passed.
+    fn size_hint(&self) -> (usize, Option<usize>)
+        ensures lower { IsWithinCount result.0 (at_most (places_to_pass self.now)) }
+        ensures upper { IfSome result.1 (UpTo (at_most (places_to_pass self.now))) }
+        ensures value { result ≡ (pairs_to_pass self.now, Some (places_to_pass self.now)) }
+    {
         match self {
             IterMut::Borrowed(places) => (0, Some(places.len())),
-            IterMut::Owned(pairs) => pairs.size_hint(),
+            IterMut::Owned(pairs) => {
+                let len = pairs.len();
+                (len, Some(len))
+            }
         }
     }
 }
