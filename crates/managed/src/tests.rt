@@ -108,6 +108,38 @@ fn an_old_key_finds_nothing(rt: HostRuntime) -> Result<(), Fail> {
     Ok(())
 }
 
+#[test]
+fn a_reserved_element_is_found(rt: HostRuntime) -> Result<(), Fail> {
+    let mut elements = [0u32; 2];
+    let mut slots = [SlotIndex::default(); 2];
+    let mut map = SlotMap::new(
+        ManagedSlice::Borrowed(&mut elements),
+        ManagedSlice::Borrowed(&mut slots),
+    );
+    let (first, element) = map.reserve().ok_or("full")?;
+    *element = 0xde;
+    let (second, element) = map.reserve().ok_or("full")?;
+    *element = 0xad;
+    assert!(rt; map.reserve().is_none());
+    assert_eq!(rt; map.get(first).copied(), Some(0xde));
+    assert_eq!(rt; map.get(second).copied(), Some(0xad));
+    Ok(())
+}
+
+#[test]
+fn a_list_takes_what_is_written(rt: HostRuntime) -> Result<(), Fail> {
+    let mut numbers = [1u8, 2, 3];
+    let mut borrowed = ManagedSlice::Borrowed(&mut numbers);
+    borrowed.as_mut_slice()[1] = 7;
+    assert_eq!(rt; borrowed.as_slice(), [1, 7, 3].as_slice());
+    let mut owned = ManagedSlice::from_array(rt.alloc(), [1u8, 2, 3])
+        .ok()
+        .ok_or("no memory")?;
+    owned.as_mut_slice()[2] = 9;
+    assert_eq!(rt; owned.as_slice(), [1, 2, 9].as_slice());
+    Ok(())
+}
+
 const PLACES: u32 = 1_000_000;
 
 #[test]
