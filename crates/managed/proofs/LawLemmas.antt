@@ -9,7 +9,7 @@ use Rattle.std.proofs.lemmas.Cmp.{alike_right}
 use Rattle.std.proofs.lemmas.Bool.Decides.{nat_tests}
 use Rattle.managed.specs.SortedMap.{value_at, with_pair}
 use Rattle.managed.specs.SlotTable.{SlotUse, generation_at, generation_after, generation_later, last_generation, taken_generations, handed_out, freed_at, after_steps, hand_outs}
-use Rattle.managed.proofs.PlacesLemmas.{by_ordering}
+use Rattle.managed.proofs.OrderLemmas.{by_ordering}
 
 is_eq_back : (o : Ordering) → is_eq (ordering_reverse o) ≡ is_eq o
 is_eq_back Less = refl

@@ -1,5 +1,13 @@
-pub mod PlacesLemmas
-pub mod SlotLemmas
+pub mod OrderLemmas
+pub mod PackedLemmas
+pub mod SearchLemmas
+pub mod FoundLemmas
+pub mod EditLemmas
+pub mod SortedLemmas
+pub mod SlotReadLemmas
+pub mod SlotStepLemmas
+pub mod SlotCallLemmas
+pub mod CutLemmas
 pub mod RangeLemmas
 pub mod LawLemmas
 pub mod LoanLemmas

@@ -2,7 +2,7 @@ use Rattle.std.proofs.Common.{◌≤◌, arith}
 use Rattle.managed.specs.Elements.{elements_in}
 use Rattle.managed.specs.SlotLinks.{use_of}
 use Rattle.managed.specs.SlotTable.{IsFullTable}
-use Rattle.managed.proofs.SlotLemmas.{full}
+use Rattle.managed.proofs.SlotCallLemmas.{full}
 use Rattle.managed.proofs.slot_links.SlotLinks.next_key.Goals as goal
 
 -- no place is left
