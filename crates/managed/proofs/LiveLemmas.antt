@@ -1,6 +1,5 @@
 -- Why a key finds its place until it is taken out.
-use Rattle.std.proofs.Common.{◌≡◌, ℕ, zero, suc, ◌+◌, ◌<◌, true, false, List, [], ◌∷◌, ◌++◌, length, get_or, set, Option, Some, None, IsSome, refl, sym, ap, ◌∙◌, length-set, arith}
-use Rattle.std.specs.Option.{is_some}
+use Rattle.std.proofs.Common.{◌≡◌, ℕ, zero, suc, ◌<◌, List, [], ◌∷◌, ◌++◌, length, get_or, set, Option, Some, None, IsSome, refl, sym, ap, ◌∙◌, length-set, arith}
 use Rattle.managed.specs.declared.slot_key.SlotKey.{SlotKey}
 use Rattle.managed.specs.SlotTable.{SlotUse, IsAbsent, AreFree, IsSoundUse, FreesLive, KeepsPlace, IsLiveKey, generation_at, key_handed_out, place_handed_out, handed_out, freed_at, taken_generations, still_free, first_or, after_steps}
 

@@ -1,19 +1,9 @@
 -- Places whose empty ones come last.
-use Rattle.std.proofs.Common.{◌≡◌, ℕ, zero, suc, ◌+◌, ◌<◌, ◌≤◌, List, [], ◌∷◌, ◌++◌, Bool, true, false, length, get_or, set, take, drop, Option, Some, None, Result, Ok, Err, IfOk, IfErr, ⊎_elim, refl, sym, ap, ◌∙◌, arith}
+use Rattle.std.proofs.Common.{◌≡◌, ℕ, zero, suc, ◌<◌, ◌≤◌, List, [], ◌∷◌, true, false, length, get_or, Option, Some, None, refl, sym, ap, ◌∙◌, arith}
 use Rattle.std.specs.declared.cmp.Ordering.{Ordering}
-use Rattle.std.specs.declared.cmp.Ordering.TheVariants.{Less, Equal, Greater}
-use Rattle.std.specs.Ordering.{ordering_index, ordering_reverse}
-use Rattle.std.specs.Cmp.{IsTotalOrder}
-use Rattle.std.specs.List.{AllByRecursion}
-use Rattle.std.specs.List.Sorted.{IsSearchInRange, IsBinarySearchResult, IsStrictlySortedBy}
-use Rattle.std.specs.Map.{keys_of, lookup, remove_entry}
-use Rattle.std.specs.Option.{option_map, is_some, IsSome}
-use Rattle.std.specs.BTreeMap.{is_at}
-use Rattle.std.proofs.lemmas.Bool.{cases_lt}
-use Rattle.std.proofs.lemmas.List.{get_or_default}
-use Rattle.std.proofs.lemmas.Cmp.{tied_back, alike_right}
-use Rattle.managed.specs.SortedMap.{filled, IsVacant, IsPacked, IsSortedPlaces, Precedes, value_at, with_pair}
-use Rattle.managed.specs.Places.{AnswersAt, IsFoundAt, IsGapAt, place_order, pushed, pulled, closed_up}
+use Rattle.std.specs.List.Sorted.{IsStrictlySortedBy}
+use Rattle.std.specs.Option.{is_some}
+use Rattle.managed.specs.SortedMap.{filled, IsVacant, IsPacked, IsSortedPlaces}
 
 pub vacant_at : {X : Type 0} (places : List (Option X)) (j : ℕ) (d : Option X) → IsVacant places → j < length places → get_or places j d ≡ None
 vacant_at [] j d vacant lt = absurd (omega arith)

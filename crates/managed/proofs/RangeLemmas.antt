@@ -10,13 +10,11 @@ use Rattle.std.specs.BTreeMap.Range.{range_contains, IsLeBy, IsLtBy}
 use Rattle.std.proofs.lemmas.Cmp.{alike_right}
 use Rattle.managed.proofs.OrderLemmas.{by_ordering, flip_greater}
 use Rattle.std.specs.Cmp.{IsTotalOrder}
-use Rattle.std.specs.List.{AllByRecursion, filter}
-use Rattle.std.specs.List.Sorted.{IsStrictlySortedBy}
-use Rattle.std.specs.Map.{keys_of}
+use Rattle.std.specs.List.{filter}
 use Rattle.std.specs.Option.{option_map, MatchOption}
 use Rattle.managed.specs.SortedMap.{filled}
 use Rattle.managed.specs.Walk.{AllFilled}
-use Rattle.managed.specs.Places.{IsFoundAt, IsGapAt, IsCut}
+use Rattle.managed.specs.Places.{IsCut}
 
 module _ {K V : Type 0} where
   module _ (from past : K → Bool) where

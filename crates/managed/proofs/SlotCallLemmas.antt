@@ -1,12 +1,10 @@
 -- The same as the calls of the links have it.
-use Rattle.std.proofs.Common.{◌≡◌, ◌⊎◌, ℕ, zero, suc, ◌+◌, ◌-◌, ◌<◌, ◌≤◌, true, false, List, [], ◌∷◌, ◌++◌, length, get_or, set, take, map, Option, Some, None, refl, sym, ap, subst, ◌∙◌, ◌^◌, inl, inr, ⊎_elim, arith, length-set}
+use Rattle.std.proofs.Common.{◌≡◌, ℕ, zero, suc, ◌-◌, ◌<◌, ◌≤◌, true, false, List, [], ◌∷◌, length, get_or, set, Option, Some, None, refl, sym, ap, subst, ◌∙◌, ◌^◌, ⊎_elim, arith}
 use Rattle.std.specs.Option.{is_some}
 use Rattle.std.proofs.lemmas.Bool.{cases_lt}
-use Rattle.std.proofs.lemmas.Bool.Decides.{nat_tests}
-use Rattle.managed.specs.SlotTable.{IsAbsent, last_generation, generation_after, IsFullTable, handed_out, freed_at}
-use Rattle.managed.specs.SlotLinks.{generation_of, generation_in, link_in, freed_from, IsFreeList, in_use, IsSound, use_of}
+use Rattle.managed.specs.SlotTable.{generation_after, IsFullTable, handed_out, freed_at}
+use Rattle.managed.specs.SlotLinks.{generation_in, link_in, freed_from, IsSound, use_of}
 use Rattle.managed.specs.declared.slot_key.SlotIndex.{SlotIndex}
-use Rattle.managed.specs.declared.slot_key.SlotState.TheVariants.{Free, InUse}
 use Rattle.managed.proofs.SlotReadLemmas.{free_slot, used_slot, gens, get_gens, gens_push, length_gens}
 use Rattle.managed.proofs.SlotStepLemmas.{taken_free, use_taken_free, free_not_full, freed, use_freed, room_to_free, all_in_use}
 

@@ -1,10 +1,9 @@
 -- What the slots show, and what one written slot changes.
-use Rattle.std.proofs.Common.{◌≡◌, ◌⊎◌, ℕ, zero, suc, ◌+◌, ◌-◌, ◌<◌, ◌≤◌, true, false, List, [], ◌∷◌, ◌++◌, length, get_or, set, take, map, Option, Some, None, refl, sym, ap, subst, ◌∙◌, ◌^◌, inl, inr, ⊎_elim, arith, length-set}
-use Rattle.std.specs.Option.{is_some}
+use Rattle.std.proofs.Common.{◌≡◌, ◌⊎◌, ℕ, zero, suc, ◌+◌, ◌<◌, ◌≤◌, List, [], ◌∷◌, ◌++◌, length, get_or, set, take, map, Option, Some, None, refl, sym, ap, ◌∙◌, inl, inr, ⊎_elim, arith}
 use Rattle.std.proofs.lemmas.Bool.{cases_lt}
 use Rattle.std.proofs.lemmas.Bool.Decides.{nat_tests}
-use Rattle.managed.specs.SlotTable.{IsAbsent, last_generation, generation_after, IsFullTable, handed_out, freed_at}
-use Rattle.managed.specs.SlotLinks.{generation_of, generation_in, link_in, freed_from, IsFreeList, in_use, IsSound, use_of}
+use Rattle.managed.specs.SlotTable.{IsAbsent, last_generation, generation_after}
+use Rattle.managed.specs.SlotLinks.{generation_of, generation_in, link_in, freed_from, IsFreeList, in_use}
 use Rattle.managed.specs.declared.slot_key.SlotIndex.{SlotIndex}
 use Rattle.managed.specs.declared.slot_key.SlotState.TheVariants.{Free, InUse}
 

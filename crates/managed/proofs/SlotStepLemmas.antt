@@ -1,12 +1,9 @@
 -- What a hand-out and a removal do to the links of the slots.
-use Rattle.std.proofs.Common.{◌≡◌, ◌⊎◌, ℕ, zero, suc, ◌+◌, ◌-◌, ◌<◌, ◌≤◌, true, false, List, [], ◌∷◌, ◌++◌, length, get_or, set, take, map, Option, Some, None, refl, sym, ap, subst, ◌∙◌, ◌^◌, inl, inr, ⊎_elim, arith, length-set}
+use Rattle.std.proofs.Common.{◌≡◌, ℕ, suc, ◌<◌, ◌≤◌, true, false, List, get_or, set, Option, Some, None, refl, sym, ap, ◌∙◌, inl, inr, ⊎_elim, arith, length-set}
 use Rattle.std.specs.Option.{is_some}
-use Rattle.std.proofs.lemmas.Bool.{cases_lt}
-use Rattle.std.proofs.lemmas.Bool.Decides.{nat_tests}
-use Rattle.managed.specs.SlotTable.{IsAbsent, last_generation, generation_after, IsFullTable, handed_out, freed_at}
-use Rattle.managed.specs.SlotLinks.{generation_of, generation_in, link_in, freed_from, IsFreeList, in_use, IsSound, use_of}
+use Rattle.managed.specs.SlotTable.{IsAbsent, generation_after, IsFullTable, handed_out, freed_at}
+use Rattle.managed.specs.SlotLinks.{generation_of, generation_in, link_in, freed_from, IsSound, use_of}
 use Rattle.managed.specs.declared.slot_key.SlotIndex.{SlotIndex}
-use Rattle.managed.specs.declared.slot_key.SlotState.TheVariants.{Free, InUse}
 use Rattle.managed.proofs.SlotReadLemmas.{free_slot, used_slot, gens, same_or_apart, get_gens, gens_set, gens_push, length_gens, in_use_set_some, in_use_set_none, in_use_push, in_same, generation_other, freed_frame, list_frame, absent_in_use, absent_new, after_positive}
 
 -- ---- the place freed last is handed out

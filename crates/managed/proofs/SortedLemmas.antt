@@ -1,19 +1,13 @@
 -- Places are sorted where each is before the next.
-use Rattle.std.proofs.Common.{◌≡◌, ℕ, zero, suc, ◌+◌, ◌<◌, ◌≤◌, List, [], ◌∷◌, ◌++◌, Bool, true, false, length, get_or, set, take, drop, Option, Some, None, Result, Ok, Err, IfOk, IfErr, ⊎_elim, refl, sym, ap, ◌∙◌, arith}
+use Rattle.std.proofs.Common.{◌≡◌, ℕ, zero, suc, ◌+◌, ◌<◌, List, [], ◌∷◌, length, get_or, Option, Some, None, ⊎_elim, sym, ◌∙◌, arith}
 use Rattle.std.specs.declared.cmp.Ordering.{Ordering}
-use Rattle.std.specs.declared.cmp.Ordering.TheVariants.{Less, Equal, Greater}
-use Rattle.std.specs.Ordering.{ordering_index, ordering_reverse}
+use Rattle.std.specs.declared.cmp.Ordering.TheVariants.{Less}
 use Rattle.std.specs.Cmp.{IsTotalOrder}
-use Rattle.std.specs.List.{AllByRecursion}
-use Rattle.std.specs.List.Sorted.{IsSearchInRange, IsBinarySearchResult, IsStrictlySortedBy}
-use Rattle.std.specs.Map.{keys_of, lookup, remove_entry}
-use Rattle.std.specs.Option.{option_map, is_some, IsSome}
-use Rattle.std.specs.BTreeMap.{is_at}
+use Rattle.std.specs.List.Sorted.{IsStrictlySortedBy}
+use Rattle.std.specs.Map.{keys_of}
 use Rattle.std.proofs.lemmas.Bool.{cases_lt}
 use Rattle.std.proofs.lemmas.List.{get_or_default}
-use Rattle.std.proofs.lemmas.Cmp.{tied_back, alike_right}
-use Rattle.managed.specs.SortedMap.{filled, IsVacant, IsPacked, IsSortedPlaces, Precedes, value_at, with_pair}
-use Rattle.managed.specs.Places.{AnswersAt, IsFoundAt, IsGapAt, place_order, pushed, pulled, closed_up}
+use Rattle.managed.specs.SortedMap.{filled, IsSortedPlaces, Precedes}
 use Rattle.managed.proofs.OrderLemmas.{all_map}
 use Rattle.managed.proofs.PackedLemmas.{filled_vacant, packed_vacant}
 

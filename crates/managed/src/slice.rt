@@ -6,6 +6,7 @@ ghost use Rattle.managed.specs.Storage.{items_of, KeepsItemStorage};
 ghost use Rattle.managed.specs.declared.slice.ManagedSlice.TheVariants.{Borrowed, Owned};
 
 use crate::NoMemory;
+use crate::elements::put;
 use std::alloc::Global;
 use std::fmt;
 
@@ -82,13 +83,6 @@ fn items_in<T>(list: &mut Vec<T>) -> &mut [T]
     ensures value { result.now ≡ list.old.items }
 {
     list.as_mut_slice()
-}
-
-fn put<T: Drop>(items: &mut [T], index: usize, item: T)
-    requires { index < length items.old }
-    ensures { items.new ≡ slice_set items.old index item }
-{
-    items[index] = item;
 }
 
 impl<'a, T: Drop> ManagedSlice<'a, T> {
