@@ -13,4 +13,6 @@ pub mod LawLemmas
 pub mod LoanLemmas
 pub mod LoanLaws
 pub mod VariantLoans
+pub mod JoinedLoans
+pub mod PlaceLoans
 pub mod LiveLemmas

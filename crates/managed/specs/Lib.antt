@@ -7,5 +7,6 @@ pub mod SlotLinks
 pub mod SlotMap
 pub mod SlotLoans
 pub mod ItemLoans
+pub mod MapLoans
 pub mod Walk
 pub mod Elements

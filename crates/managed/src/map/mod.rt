@@ -2,6 +2,7 @@
 ghost use Rattle.std.specs.Prelude.{◌≡◌, ◌↔◌, [], None, length, IsTrue, IsErr, IfOk, IfErr, OnOk, OnErr};
 ghost use Rattle.std.specs.Option.{option_copied, option_copied_mut};
 ghost use Rattle.std.specs.Map.{remove_entry};
+ghost use Rattle.std.specs.Borrow.{sem};
 ghost use Rattle.std.specs.BTreeMap.{is_at};
 ghost use Rattle.std.specs.BTreeMap.Range.{entries_between};
 ghost use Rattle.std.specs.Range.Bound.{bound_map};
@@ -10,14 +11,17 @@ ghost use Rattle.managed.specs.declared.map.ManagedMap.TheVariants.{Borrowed, Ow
 mod borrowed;
 mod iter;
 mod iter_mut;
+mod loan;
 mod places;
 mod range;
 mod search;
 
 use crate::InsertError;
+use crate::slice::behind;
 pub use iter::Iter;
 use iter::Pairs;
 pub use iter_mut::IterMut;
+use loan::value_in_tree;
 pub use range::Range;
 use range::Span;
 use std::collections::BTreeMap;
@@ -61,6 +65,7 @@ impl<'a, K: Ord + fmt::Debug, V: fmt::Debug> fmt::Debug for ManagedMap<'a, K, V>
 impl<'a, K: Ord, V> ManagedMap<'a, K, V> {
     ghost use Rattle.managed.specs.SortedMap.{pairs, value_at, inserted, IsFull, IsRefusal, IsSortedMap, KeepsStorage};
     ghost use Rattle.managed.specs.Walk.{pairs_to_write};
+    ghost use Rattle.managed.specs.MapLoans.{lends_in_map};
 
     /// Whether the keys rise strictly and the empty places come last, as each other call but `clear`
     /// asks of borrowed places.
@@ -164,11 +169,12 @@ impl<'a, K: Ord, V> ManagedMap<'a, K, V> {
     /// The value of a key, for writing.
     pub fn get_mut(&mut self, key: &K) -> Option<&mut V>
         requires { IsSortedMap K.cmp self.old }
-        ensures { option_copied_mut result ≡ value_at K.cmp (pairs self.old) key.now }
+        ensures* written { sem 𝓛 (lends_in_map K.row V.row K.Ord self.entry key.now result) }
+        ensures value { option_copied_mut result ≡ value_at K.cmp (pairs self.old) key.now }
     {
         match self {
-            ManagedMap::Borrowed(places) => borrowed::get_mut(places, key),
-            ManagedMap::Owned(tree) => tree.get_mut(key),
+            ManagedMap::Borrowed(places) => borrowed::get_mut(behind(places), key),
+            ManagedMap::Owned(tree) => value_in_tree(tree, key),
         }
     }
 

@@ -72,7 +72,7 @@ reserve_spec 𝓤 𝓛 𝓜 𝓡 wired T laws =
     let κ = κs.0 in let ρ = κs.1.0 in let τ = κs.1.1.0 in let R = Row T κs in let self = a.0 in let lives = lft_at 3 2 tt κs ⊑ T.lives in
     let l₁ = Share.left qs.1.0 in let r₁ = Share.right qs.1.0 in
     let t₀ = ‵ (flft κ qs.0) in let t₁ = ‵ (flft ρ qs.1.0) in let t₂ = ‵ (flft τ qs.1.1.0) in
-    let Part = MutRef (named 0) κ X in let Pair = key_row ∷ Part ∷ [] in let part_laws = mut_laws κ T laws in
+    let Part = MutRef (named 0) κ X in let Pair = key_row ∷ Part ∷ [] in let part_laws = mut_laws 0 κ T laws in
     let R₀ = the_row (record { mir = named 1; lft = [] }) X in let F = with_element (with_handed_out self.now) (place_handed_out self.now.links) in
     let b = self.ref_ptr.0 in let o = self.ref_ptr.1 in
     let Ref = λ (κ' : List ℕ) (x : MutBor R.Denot). (MutRef (named 0) κ' R).own_val x (mut_vals self) in
