@@ -17,11 +17,10 @@ mod range;
 mod search;
 
 use crate::InsertError;
-use crate::slice::behind;
 pub use iter::Iter;
 use iter::Pairs;
 pub use iter_mut::IterMut;
-use loan::value_in_tree;
+use loan::{places_behind, value_in_tree};
 pub use range::Range;
 use range::Span;
 use std::collections::BTreeMap;
@@ -173,7 +172,7 @@ impl<'a, K: Ord, V> ManagedMap<'a, K, V> {
         ensures value { option_copied_mut result ≡ value_at K.cmp (pairs self.old) key.now }
     {
         match self {
-            ManagedMap::Borrowed(places) => borrowed::get_mut(behind(places), key),
+            ManagedMap::Borrowed(places) => borrowed::get_mut(places_behind(places), key),
             ManagedMap::Owned(tree) => value_in_tree(tree, key),
         }
     }
