@@ -15,4 +15,5 @@ pub mod LoanLaws
 pub mod VariantLoans
 pub mod JoinedLoans
 pub mod PlaceLoans
+pub mod MapWrites
 pub mod LiveLemmas

@@ -1,5 +1,5 @@
 -- What places hold once a value was written at the place that was found.
-use Rattle.std.proofs.Common.{◌≡◌, ℕ, zero, suc, List, [], ◌∷◌, length, get_or, Option, Some, None, refl, sym, subst, ap, ◌∙◌, arith}
+use Rattle.std.proofs.Common.{◌≡◌, ℕ, zero, suc, List, [], ◌∷◌, length, get_or, set, Option, Some, None, refl, sym, subst, ap, arith}
 use Rattle.std.specs.declared.cmp.Ordering.{Ordering}
 use Rattle.std.specs.List.Sorted.{IsStrictlySortedBy}
 use Rattle.std.specs.Map.{set_value}
@@ -28,7 +28,7 @@ length-written (place ∷ places) zero w = refl
 length-written (place ∷ places) (suc at) w = ap suc (length-written places at w)
 
 -- a place without a write
-pub same_place : {X : Type 0} (places : List (Option X)) (at : ℕ) → Rattle.std.specs.Prelude.slice_set places at (get_or places at None) ≡ places
+pub same_place : {X : Type 0} (places : List (Option X)) (at : ℕ) → set places at (get_or places at None) ≡ places
 same_place [] at = refl
 same_place (place ∷ places) zero = refl
 same_place (place ∷ places) (suc at) = ap (λ l. place ∷ l) (same_place places at)

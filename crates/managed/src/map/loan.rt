@@ -47,7 +47,10 @@ pub(super) fn value_of<K, V>(places: &mut [Option<(K, V)>], at: usize) -> Option
 }
 
 // The value of a key in a tree.
-pub(super) fn value_in_tree<'a, K: Ord, V>(tree: &'a mut BTreeMap<K, V>, key: &K) -> Option<&'a mut V>
+pub(super) fn value_in_tree<'a, K: Ord, V>(
+    tree: &'a mut BTreeMap<K, V>,
+    key: &K,
+) -> Option<&'a mut V>
     ensures* written { sem 𝓛 (lends_in_tree K.row V.row K.Ord tree.entry key.now result) }
     ensures value { option_copied_mut result ≡ value_at K.cmp tree.old.entries key.now }
 {

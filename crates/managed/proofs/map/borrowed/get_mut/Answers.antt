@@ -1,4 +1,4 @@
-use Rattle.std.proofs.Common.{Option, Some, None, MutBor, refl, sym, ◌∙◌}
+use Rattle.std.proofs.Common.{Option, Some, None, refl, sym, ◌∙◌}
 use Rattle.std.specs.Option.{OnSome}
 use Rattle.managed.proofs.FoundLemmas.{found_value, gap_value}
 use Rattle.managed.proofs.PlaceLoans.{written_at}

@@ -1,7 +1,7 @@
 -- The places follow the place that `place_of` lends, and that follows the value in its pair.
 use mathlib.Core.Path.{◌≡◌, refl, ap, ◌∙◌}
-use Prim.Native.Nat.{ℕ, ◌<◌}
-use mathlib.Core.List.{List, [], ◌∷◌}
+use Prim.Native.Nat.{◌<◌}
+use mathlib.Core.List.{[], ◌∷◌}
 use mir.Syntax.{a_type, named, w64}
 use mir.MapTy.{inst_fn}
 use base.Logic.{id⊢, emp}
@@ -20,7 +20,7 @@ use denote.Exit.{no, yes}
 use denote.Follow.{follows, follows_if}
 use denote.Laws.{Is, shows}
 use denote.Param.{layouts, param}
-use denote.Plain.{uint_vals, uint_Tells, uint_Makes}
+use denote.Plain.{uint_vals, uint_Tells}
 use denote.RattleType.{RattleType}
 use denote.Ref.{MutRef, MutBor, mut_Lawful}
 use denote.Signature.{plain, mut_slice_of}
