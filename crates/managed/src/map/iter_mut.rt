@@ -9,12 +9,15 @@ ghost use Rattle.managed.specs.Walk.{LendsNext, pairs_to_pass, places_to_pass};
 use std::collections::btree_map;
 use std::slice;
 
-/// The pairs that are left, from the front.
+/// The pairs that are left, from the front. Its storage is hidden, so that a caller writes no key.
 #[derive(Drop)]
-pub enum IterMut<'a, K: Ord, V> {
-    /// The places that are left.
+pub struct IterMut<'a, K: Ord, V> {
+    pub(super) left: Left<'a, K, V>,
+}
+
+#[derive(Drop)]
+pub(super) enum Left<'a, K: Ord, V> {
     Borrowed(slice::IterMut<'a, Option<(K, V)>>),
-    /// The pairs of a tree that are left.
     Owned(btree_map::IterMut<'a, K, V>),
 }
 
@@ -34,12 +37,12 @@ impl<'a, K: Ord, V> Iterator for IterMut<'a, K, V> {
     ghost remaining = { λ s. at_most (places_to_pass s) };
 
     fn next(&mut self) -> Option<(&'a K, &'a mut V)> {
-        match self {
-            IterMut::Borrowed(places) => match places.next() {
+        match &mut self.left {
+            Left::Borrowed(places) => match places.next() {
                 Some(place) => lend_pair(place),
                 None => None,
             },
-            IterMut::Owned(pairs) => pairs.next(),
+            Left::Owned(pairs) => pairs.next(),
         }
     }
 
@@ -50,9 +53,9 @@ impl<'a, K: Ord, V> Iterator for IterMut<'a, K, V> {
         ensures upper { IfSome result.1 (UpTo (at_most (places_to_pass self.now))) }
         ensures value { result ≡ (pairs_to_pass self.now, Some (places_to_pass self.now)) }
     {
-        match self {
-            IterMut::Borrowed(places) => (0, Some(places.len())),
-            IterMut::Owned(pairs) => {
+        match &self.left {
+            Left::Borrowed(places) => (0, Some(places.len())),
+            Left::Owned(pairs) => {
                 let len = pairs.len();
                 (len, Some(len))
             }

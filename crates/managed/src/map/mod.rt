@@ -20,6 +20,7 @@ use crate::InsertError;
 pub use iter::Iter;
 use iter::Pairs;
 pub use iter_mut::IterMut;
+use iter_mut::Left;
 use loan::{places_behind, value_in_tree};
 pub use range::Range;
 use range::Span;
@@ -195,9 +196,11 @@ impl<'a, K: Ord, V> ManagedMap<'a, K, V> {
         requires { IsSortedMap K.cmp self.old }
         ensures rest { pairs_to_write result ≡ pairs self.old }
     {
-        match self {
-            ManagedMap::Borrowed(places) => IterMut::Borrowed(places.iter_mut()),
-            ManagedMap::Owned(tree) => IterMut::Owned(tree.iter_mut()),
+        IterMut {
+            left: match self {
+                ManagedMap::Borrowed(places) => Left::Borrowed(places.iter_mut()),
+                ManagedMap::Owned(tree) => Left::Owned(tree.iter_mut()),
+            },
         }
     }
 
