@@ -8,5 +8,6 @@ pub mod SlotMap
 pub mod SlotLoans
 pub mod ItemLoans
 pub mod MapLoans
+pub mod WalkLoans
 pub mod Walk
 pub mod Elements

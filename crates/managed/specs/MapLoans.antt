@@ -45,9 +45,11 @@ module _ {K V : Type 0} where
       pub sorted : IsSortedMap cmp new
 
 module _ (K V : RattleType) where
+  -- the type of a place
   abbrev pub place_row : RattleType
   place_row = option_row (Tuple (K ∷ V ∷ []))
 
+  -- the places of a map
   abbrev pub Places : Type 0
   Places = List (Option (K.Denot × V.Denot))
 

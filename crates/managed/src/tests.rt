@@ -52,6 +52,26 @@ fn empty_places_come_last(rt: HostRuntime) -> Result<(), Fail> {
 }
 
 #[test]
+fn a_written_value_stays_at_its_key(rt: HostRuntime) -> Result<(), Fail> {
+    let mut places = [Some((b'a', 1u32)), Some((b'c', 3)), Some((b'e', 5)), None];
+    let mut map = ManagedMap::Borrowed(&mut places);
+    if let Some(value) = map.get_mut(&b'c') {
+        *value = 30;
+    }
+    assert!(rt; map.get_mut(&b'b').is_none());
+    for (key, value) in map.iter_mut() {
+        if *key == b'e' {
+            *value = 50;
+        }
+    }
+    assert_eq!(rt;
+        places,
+        [Some((b'a', 1)), Some((b'c', 30)), Some((b'e', 50)), None]
+    );
+    Ok(())
+}
+
+#[test]
 fn an_owned_map_takes_the_new_value(rt: HostRuntime) -> Result<(), Fail> {
     let mut map = ManagedMap::from(BTreeMap::new(rt.alloc()));
     assert_eq!(rt; map.insert(b'a', 1u32), Ok(None));

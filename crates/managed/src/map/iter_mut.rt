@@ -5,8 +5,14 @@ ghost use Rattle.std.specs.Iterator.{at_most, UpTo};
 ghost use Rattle.std.specs.Iterator.SizeHint.{IsWithinCount};
 ghost use Rattle.std.specs.Map.Iter.{deref_pair_mut};
 ghost use Rattle.managed.specs.Walk.{LendsNext, pairs_to_pass, places_to_pass};
+ghost use Rattle.std.specs.Borrow.{sem};
+ghost use Rattle.std.specs.BTreeMap.IterMut.{iter_mut_rest as tree_rest, iter_mut_name as tree_name};
+ghost use Rattle.std.specs.BTreeMap.Lent.{KeepsKeys};
+ghost use Rattle.managed.specs.WalkLoans.{walk_name, lends_pairs};
+ghost use Rattle.managed.specs.SortedMap.{filled};
+ghost use Rattle.managed.specs.Walk.{pairs_to_write};
 
-use std::collections::btree_map;
+use std::collections::{BTreeMap, btree_map};
 use std::slice;
 
 /// The pairs that are left, from the front. Its storage is hidden, so that a caller writes no key.
@@ -61,4 +67,33 @@ impl<'a, K: Ord, V> Iterator for IterMut<'a, K, V> {
             }
         }
     }
+}
+
+// A walk over places.
+pub(super) fn over_places<'a, K: Ord, V>(places: &'a mut [Option<(K, V)>]) -> IterMut<'a, K, V>
+    ensures same { walk_name result ≡ places.entry.ghost_name }
+    ensures rest { pairs_to_write result ≡ filled places.old }
+{
+    IterMut {
+        left: Left::Borrowed(places.iter_mut()),
+    }
+}
+
+// A walk over the pairs of a tree.
+pub(super) fn over_pairs<'a, K: Ord, V>(pairs: btree_map::IterMut<'a, K, V>) -> IterMut<'a, K, V>
+    ensures same { walk_name result ≡ tree_name pairs.entry }
+    ensures rest { pairs_to_write result ≡ tree_rest pairs.entry }
+{
+    IterMut {
+        left: Left::Owned(pairs),
+    }
+}
+
+// The pairs of a tree.
+pub(super) fn pairs_of<'a, K: Ord, V>(tree: &'a mut BTreeMap<K, V>) -> btree_map::IterMut<'a, K, V>
+    ensures* written { sem 𝓛 (lends_pairs K.row V.row K.Ord tree.entry result) }
+    ensures others { KeepsKeys tree.old 0 }
+    ensures rest { tree_rest result ≡ tree.old.entries }
+{
+    tree.iter_mut()
 }

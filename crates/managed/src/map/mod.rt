@@ -20,7 +20,7 @@ use crate::InsertError;
 pub use iter::Iter;
 use iter::Pairs;
 pub use iter_mut::IterMut;
-use iter_mut::Left;
+use iter_mut::{over_pairs, over_places, pairs_of};
 use loan::{places_behind, value_in_tree};
 pub use range::Range;
 use range::Span;
@@ -66,6 +66,7 @@ impl<'a, K: Ord, V> ManagedMap<'a, K, V> {
     ghost use Rattle.managed.specs.SortedMap.{pairs, value_at, inserted, IsFull, IsRefusal, IsSortedMap, KeepsStorage};
     ghost use Rattle.managed.specs.Walk.{pairs_to_write};
     ghost use Rattle.managed.specs.MapLoans.{lends_in_map};
+    ghost use Rattle.managed.specs.WalkLoans.{KeepsTreeKeys, lends_walk};
 
     /// Whether the keys rise strictly and the empty places come last, as each other call but `clear`
     /// asks of borrowed places.
@@ -194,13 +195,13 @@ impl<'a, K: Ord, V> ManagedMap<'a, K, V> {
     /// The pairs in key order, each once, with their values for writing.
     pub fn iter_mut(&mut self) -> IterMut<'_, K, V>
         requires { IsSortedMap K.cmp self.old }
+        ensures* written { sem 𝓛 (lends_walk K.row V.row K.Ord self.entry result) }
+        ensures others { KeepsTreeKeys self.old }
         ensures rest { pairs_to_write result ≡ pairs self.old }
     {
-        IterMut {
-            left: match self {
-                ManagedMap::Borrowed(places) => Left::Borrowed(places.iter_mut()),
-                ManagedMap::Owned(tree) => Left::Owned(tree.iter_mut()),
-            },
+        match self {
+            ManagedMap::Borrowed(places) => over_places(places_behind(places)),
+            ManagedMap::Owned(tree) => over_pairs(pairs_of(tree)),
         }
     }
 
