@@ -55,19 +55,23 @@ fn empty_places_come_last(rt: HostRuntime) -> Result<(), Fail> {
 fn a_written_value_stays_at_its_key(rt: HostRuntime) -> Result<(), Fail> {
     let mut places = [Some((b'a', 1u32)), Some((b'c', 3)), Some((b'e', 5)), None];
     let mut map = ManagedMap::Borrowed(&mut places);
+    assert!(rt; map.is_sorted());
     if let Some(value) = map.get_mut(&b'c') {
         *value = 30;
     }
+    assert!(rt; map.is_sorted());
     assert!(rt; map.get_mut(&b'b').is_none());
+    assert!(rt; map.is_sorted());
     for (key, value) in map.iter_mut() {
         if *key == b'e' {
             *value = 50;
         }
     }
-    assert_eq!(rt;
-        places,
-        [Some((b'a', 1)), Some((b'c', 30)), Some((b'e', 50)), None]
-    );
+    assert!(rt; map.is_sorted());
+    assert_eq!(rt; map.len(), 3);
+    assert_eq!(rt; map.get(&b'a').copied(), Some(1));
+    assert_eq!(rt; map.get(&b'c').copied(), Some(30));
+    assert_eq!(rt; map.get(&b'e').copied(), Some(50));
     Ok(())
 }
 
