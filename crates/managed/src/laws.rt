@@ -1,7 +1,8 @@
 //! What follows from the contracts of the containers, for every map and every table.
 ghost use Rattle.std.specs.Prelude.{◌≡◌, ℕ, ◌+◌, ◌<◌, ◌≤◌, [], List, Option, Some, IsSome, if◌then◌else◌, slice_set};
 ghost use Rattle.std.specs.Ordering.{is_eq};
-ghost use Rattle.std.specs.BTreeMap.{insert_entry};
+ghost use Rattle.std.specs.BTreeMap.{insert_entry, is_at};
+ghost use Rattle.std.specs.Map.{set_value};
 ghost use Rattle.std.specs.BTreeMap.Range.{entries_between, IsLeBy, IsLtBy};
 ghost use Rattle.std.specs.Range.Bound.{IsForward};
 ghost use Rattle.std.specs.declared.ops.Bound.{Bound as BoundOf};
@@ -20,6 +21,14 @@ pub fn an_inserted_key_is_found<K: Ord, V>()
         ≡ (if is_eq (K.cmp key other) then Some value else value_at K.cmp es other) }
     ensures owned { (es : List (K × V)) (key : K) (value : V) (other : K)
         → value_at K.cmp (insert_entry K.cmp es key value) other
+        ≡ (if is_eq (K.cmp key other) then Some value else value_at K.cmp es other) }
+{}
+
+/// After a write through the value that `get_mut` lent the key has what was written, and each other key
+/// has what it had.
+pub fn a_written_value_is_found<K: Ord, V>()
+    ensures { (es : List (K × V)) (key : K) (value : V) (other : K) → IsSome (value_at K.cmp es key)
+        → value_at K.cmp (set_value (is_at (K.cmp key)) es value) other
         ≡ (if is_eq (K.cmp key other) then Some value else value_at K.cmp es other) }
 {}
 
