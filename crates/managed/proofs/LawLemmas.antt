@@ -4,12 +4,14 @@ use Rattle.std.specs.declared.cmp.Ordering.{Ordering}
 use Rattle.std.specs.declared.cmp.Ordering.TheVariants.{Less, Equal, Greater}
 use Rattle.std.specs.Ordering.{is_eq, ordering_reverse}
 use Rattle.std.specs.Cmp.{IsTotalOrder}
-use Rattle.std.specs.BTreeMap.{insert_entry}
+use Rattle.std.specs.BTreeMap.{insert_entry, is_at}
+use Rattle.std.specs.Map.{set_value}
+use Rattle.std.specs.Option.{IsSome}
 use Rattle.std.proofs.lemmas.Cmp.{alike_right}
 use Rattle.std.proofs.lemmas.Bool.Decides.{nat_tests}
 use Rattle.managed.specs.SortedMap.{value_at, with_pair}
 use Rattle.managed.specs.SlotTable.{SlotUse, generation_at, generation_after, generation_later, last_generation, taken_generations, handed_out, freed_at, after_steps, hand_outs}
-use Rattle.managed.proofs.PlacesLemmas.{by_ordering}
+use Rattle.managed.proofs.OrderLemmas.{by_ordering}
 
 is_eq_back : (o : Ordering) → is_eq (ordering_reverse o) ≡ is_eq o
 is_eq_back Less = refl
@@ -38,11 +40,11 @@ module _ {K V : Type 0} {cmp : K → K → Ordering} (total : IsTotalOrder cmp) 
   alike : (x : K) → cmp key x ≡ Equal → is_eq (cmp other x) ≡ is_eq (cmp key other)
   alike x same = ap is_eq (sym (alike_right total key x other same)) ∙ back
 
+  apart_by : (x : K) (o : Ordering) → (o ≡ Equal → ⊥) → cmp key x ≡ o → is_eq (cmp other x) ≡ true → is_eq (cmp key other) ≡ true → ⊥
+  apart_by x o differs is one two = differs (sym is ∙ total.congr key other x (from_is_eq _ two) ∙ from_is_eq _ one)
+
   apart : (x : K) → cmp key x ≡ Greater → is_eq (cmp other x) ≡ true → is_eq (cmp key other) ≡ true → ⊥
-  apart x greater one two =
-      let same : cmp key x ≡ Equal = total.congr key other x (from_is_eq _ two) ∙ from_is_eq _ one in
-      let clash : Greater ≡ Equal = sym greater ∙ same in
-      cc
+  apart x = apart_by x Greater (λ clash. cc)
 
   pub value-with_pair : (es : List (K × V)) → value_at cmp (with_pair cmp es key value) other ≡ cond (is_eq (cmp key other)) (Some value) (value_at cmp es other)
   value-with_pair [] = rw back refl
@@ -57,6 +59,14 @@ module _ {K V : Type 0} {cmp : K → K → Ordering} (total : IsTotalOrder cmp) 
       (λ less. rw (less, back) refl)
       (λ same. rw (same, alike e.0 same) (same_twice (is_eq (cmp key other)) (Some value) (value_at cmp es other) (Some e.1)))
       (λ greater. rw (greater, value-insert_entry es) (either_first (is_eq (cmp other e.0)) (is_eq (cmp key other)) (Some e.1) (Some value) (value_at cmp es other) (apart e.0 greater)))
+
+  -- a value that is written at a key that is there
+  pub value-set : (es : List (K × V)) → IsSome (value_at cmp es key) → value_at cmp (set_value (is_at (cmp key)) es value) other ≡ cond (is_eq (cmp key other)) (Some value) (value_at cmp es other)
+  value-set [] there = absurd (cc)
+  value-set (e ∷ es) there = by_ordering (cmp key e.0)
+      (λ less. rw (less, value-set es (rw less at there)) (either_first (is_eq (cmp other e.0)) (is_eq (cmp key other)) (Some e.1) (Some value) (value_at cmp es other) (apart_by e.0 Less (λ clash. cc) less)))
+      (λ same. rw (same, alike e.0 same) (same_twice (is_eq (cmp key other)) (Some value) (value_at cmp es other) (Some e.1)))
+      (λ greater. rw (greater, value-set es (rw greater at there)) (either_first (is_eq (cmp other e.0)) (is_eq (cmp key other)) (Some e.1) (Some value) (value_at cmp es other) (apart_by e.0 Greater (λ clash. cc) greater)))
 
 -- ---- generations
 later_differs : (g j : ℕ) → 0 < j → j < last_generation → generation_later g j ≡ g → ⊥

@@ -7,5 +7,7 @@ pub mod SlotLinks
 pub mod SlotMap
 pub mod SlotLoans
 pub mod ItemLoans
+pub mod MapLoans
+pub mod WalkLoans
 pub mod Walk
 pub mod Elements

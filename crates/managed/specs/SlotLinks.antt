@@ -1,6 +1,6 @@
 -- How a slot map links its free places inside the slots. No public clause cites this module.
 use Rattle.std.specs.Prelude.{◌≡◌, ◌⊎◌, ℕ, zero, suc, ◌+◌, ◌<◌, ◌≤◌, List, [], ◌∷◌, length, map, take, Option, Some, None, slice_index_or}
-use Rattle.managed.specs.SlotTable.{SlotUse, last_generation}
+use Rattle.managed.specs.SlotTable.{SlotUse, IsAbsent, last_generation}
 use Rattle.managed.specs.declared.slot_key.SlotIndex.{SlotIndex}
 use Rattle.managed.specs.declared.slot_key.SlotState.TheVariants.{Free, InUse}
 use Rattle.managed.specs.declared.slot_key.SlotState.{SlotState}
@@ -30,11 +30,7 @@ abbrev pub freed_from : List SlotIndex → ℕ → ℕ → List ℕ
 freed_from slots zero first = []
 freed_from slots (suc count) first = first ∷ freed_from slots count (link_in slots first)
 
--- a place is not, or is, in a list
-abbrev pub IsAbsent : ℕ → List ℕ → Type 0
-IsAbsent place [] = Unit {0}
-IsAbsent place (other ∷ rest) = (place ≡ other → ⊥) × IsAbsent place rest
-
+-- a place is in a list
 abbrev pub IsListed : ℕ → List ℕ → Type 0
 IsListed place [] = ⊥
 IsListed place (other ∷ rest) = (place ≡ other) ⊎ IsListed place rest

@@ -101,3 +101,30 @@ abbrev pub hand_outs : List (Option ℕ) → ℕ
 hand_outs [] = 0
 hand_outs (None ∷ steps) = hand_outs steps + 1
 hand_outs (Some place ∷ steps) = hand_outs steps
+
+-- a place is not in a list
+abbrev pub IsAbsent : ℕ → List ℕ → Type 0
+IsAbsent place [] = Unit {0}
+IsAbsent place (other ∷ rest) = (place ≡ other → ⊥) × IsAbsent place rest
+
+-- these places were handed out once, are not in use, and come once each
+abbrev pub AreFree : List (Option ℕ) → List ℕ → Type 0
+AreFree generations [] = Unit {0}
+AreFree generations (place ∷ rest) =
+    (place < length generations) × (slice_index_or generations place None ≡ None) × IsAbsent place rest × AreFree generations rest
+
+-- no freed place is in use. A place that was never handed out has no generation
+abbrev pub IsSoundUse : SlotUse → Type 0
+IsSoundUse u = AreFree u.generations u.freed
+
+-- each place that the steps free is in use by then
+abbrev pub FreesLive : SlotUse → List (Option ℕ) → Type 0
+FreesLive u [] = Unit {0}
+FreesLive u (None ∷ steps) = FreesLive (handed_out u) steps
+FreesLive u (Some place ∷ steps) = IsSome (generation_at u place) × FreesLive (freed_at u place) steps
+
+-- no step frees a place
+abbrev pub KeepsPlace : ℕ → List (Option ℕ) → Type 0
+KeepsPlace place [] = Unit {0}
+KeepsPlace place (None ∷ steps) = KeepsPlace place steps
+KeepsPlace place (Some freed ∷ steps) = (place ≡ freed → ⊥) × KeepsPlace place steps

@@ -1,9 +1,12 @@
 //! A list, owned or borrowed.
 ghost use Rattle.std.specs.Prelude.{◌≡◌, ◌<◌, length, slice_set, IfOk};
+ghost use Rattle.std.specs.Borrow.{sem};
+ghost use Rattle.managed.specs.ItemLoans.{lends_behind, lends_heap};
 ghost use Rattle.managed.specs.Storage.{items_of, KeepsItemStorage};
 ghost use Rattle.managed.specs.declared.slice.ManagedSlice.TheVariants.{Borrowed, Owned};
 
 use crate::NoMemory;
+use crate::elements::put;
 use std::alloc::Global;
 use std::fmt;
 
@@ -42,6 +45,8 @@ impl<'a, T: fmt::Debug> fmt::Debug for ManagedSlice<'a, T> {
 }
 
 impl<'a, T> ManagedSlice<'a, T> {
+    ghost use Rattle.managed.specs.ItemLoans.{lends_items};
+
     /// The items, to read.
     pub fn as_slice(&self) -> &[T]
         ensures value { result.now ≡ items_of self.now }
@@ -54,20 +59,30 @@ impl<'a, T> ManagedSlice<'a, T> {
 
     /// The items, to read and write.
     pub fn as_mut_slice(&mut self) -> &mut [T]
+        ensures* written { sem 𝓛 (lends_items T.row self.entry result) }
         ensures value { result.now ≡ items_of self.old }
     {
         match self {
-            ManagedSlice::Borrowed(items) => items,
-            ManagedSlice::Owned(items) => items.as_mut_slice(),
+            ManagedSlice::Borrowed(items) => behind(items),
+            ManagedSlice::Owned(items) => items_in(items),
         }
     }
 }
 
-fn put<T: Drop>(items: &mut [T], index: usize, item: T)
-    requires { index < length items.old }
-    ensures { items.new ≡ slice_set items.old index item }
+// The items behind a reference that is itself behind one.
+pub(crate) fn behind<'a, 'b, T>(items: &'b mut &'a mut [T]) -> &'b mut [T]
+    ensures* written { sem 𝓛 (lends_behind T.row items.entry result) }
+    ensures value { result.now ≡ items.old.now }
 {
-    items[index] = item;
+    items
+}
+
+// The items of a list on the heap.
+fn items_in<T>(list: &mut Vec<T>) -> &mut [T]
+    ensures* written { sem 𝓛 (lends_heap T.row list.entry result) }
+    ensures value { result.now ≡ list.old.items }
+{
+    list.as_mut_slice()
 }
 
 impl<'a, T: Drop> ManagedSlice<'a, T> {

@@ -106,6 +106,20 @@ impl<'a> SlotLinks<'a> {
         }
     }
 
+    // The key that is handed out next, while a place is left for it.
+    pub(crate) fn next_key(&self) -> SlotKey
+        ensures value { result ≡ key_handed_out self.now }
+        ensures room { self.now.capacity ≤ result.place → IsFullTable self.now }
+    {
+        let generation = self.next_generation;
+        if self.free_count > 0 {
+            let place = self.first_free;
+            return SlotKey { place, generation };
+        }
+        let place = self.next_place;
+        SlotKey { place, generation }
+    }
+
     // Hands a key out.
     pub(crate) fn take(&mut self) -> Option<SlotKey>
         ensures value { IfSome result (λ key. key ≡ key_handed_out self.old) }

@@ -3,7 +3,9 @@ ghost use Rattle.std.specs.Prelude.{◌≡◌, ◌↔◌, ◌<◌, min, length, 
 ghost use Rattle.std.specs.Borrow.{sem};
 ghost use Rattle.managed.specs.Storage.{items_of};
 ghost use Rattle.managed.specs.ItemLoans.{lends_item};
-ghost use Rattle.managed.specs.SlotTable.{unused, IsLiveKey, IsFullTable, key_handed_out, handed_out, freed_at, last_generation};
+ghost use Rattle.std.specs.Option.{ghost_name_of};
+ghost use Rattle.managed.specs.SlotLoans.{entry_name};
+ghost use Rattle.managed.specs.SlotTable.{unused, IsLiveKey, IsFullTable, key_handed_out, place_handed_out, handed_out, freed_at, last_generation};
 
 use crate::ManagedSlice;
 use crate::elements::{Elements, put};
@@ -20,7 +22,7 @@ pub struct SlotMap<'a, T> {
 
 impl<'a, T> SlotMap<'a, T> {
     ghost use Rattle.managed.specs.SlotMap.{elements_of, places_of, IsWhole, AsBefore};
-    ghost use Rattle.managed.specs.SlotLoans.{lends_element, lends_removed, lends_borrowed, lends_borrowed_item, lends_owned_item};
+    ghost use Rattle.managed.specs.SlotLoans.{lends_element, lends_removed, lends_reserved, lends_handed_out, lends_borrowed, lends_borrowed_item, lends_owned_item};
 
     /// A table with no key in it. It has as many places as the shorter list, and reads no given slot.
     pub fn new(elements: ManagedSlice<'a, T>, slots: ManagedSlice<'a, SlotIndex>) -> Self
@@ -66,17 +68,35 @@ impl<'a, T> SlotMap<'a, T> {
     /// Hands a key out, with the element that lies at its place. It is `insert` for a caller that keeps
     /// what lies there.
     pub fn reserve(&mut self) -> Option<(SlotKey, &mut T)>
+        ensures* written { sem 𝓛 (lends_reserved T.row self.entry result) }
         ensures refuses { IsWhole self.old → (IsNone result ↔ IsFullTable (places_of self.old)) }
         ensures key { IfSome result (λ entry. entry.0 ≡ key_handed_out (places_of self.old)) }
         ensures value { IfSome result (λ entry. Some entry.1.now ≡ slice_get (elements_of self.old) entry.0.place) }
     {
-        let Some(key) = self.hand_out() else {
+        let key = self.next_key();
+        beside(key, self.lend_next())
+    }
+
+    // The key that is handed out next. It changes nothing, and takes the table as its caller has it.
+    fn next_key(&mut self) -> SlotKey
+        ensures value { result ≡ key_handed_out (places_of self.old) }
+        ensures empty { self.new ≡ self.old }
+    {
+        self.links.next_key()
+    }
+
+    // Hands a key out, and lends the element that lies at its place.
+    fn lend_next(&mut self) -> Option<&mut T>
+        ensures* written { sem 𝓛 (lends_handed_out T.row self.entry result) }
+        ensures refuses { IsWhole self.old → (IsNone result ↔ IsFullTable (places_of self.old)) }
+        ensures value { IfSome result (λ element. Some element.now ≡ slice_get (elements_of self.old) (place_handed_out (places_of self.old))) }
+    {
+        let place = self.links.next_key().place;
+        if self.element(place).is_none() {
             return None;
-        };
-        match self.lend(key.place) {
-            Some(element) => Some((key, element)),
-            None => None,
         }
+        self.links.take()?;
+        self.lend(place)
     }
 
     /// Hands a key out, as `reserve` does, and lends nothing.
@@ -229,6 +249,16 @@ impl<'a, T> SlotMap<'a, T> {
         }
         None
     }
+}
+
+// The key and the element in one.
+fn beside<'a, T>(key: SlotKey, element: Option<&'a mut T>) -> Option<(SlotKey, &'a mut T)>
+    ensures same { entry_name result ≡ ghost_name_of element.entry }
+    ensures found { IsNone result ↔ IsNone element.entry }
+    ensures key { IfSome result (λ entry. entry.0 ≡ key) }
+    ensures value { IfSome result (λ entry. Some entry.1 ≡ element.entry) }
+{
+    Some((key, element?))
 }
 
 fn item_of<T>(items: &mut [T], place: usize) -> &mut T

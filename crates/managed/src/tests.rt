@@ -52,6 +52,30 @@ fn empty_places_come_last(rt: HostRuntime) -> Result<(), Fail> {
 }
 
 #[test]
+fn a_written_value_stays_at_its_key(rt: HostRuntime) -> Result<(), Fail> {
+    let mut places = [Some((b'a', 1u32)), Some((b'c', 3)), Some((b'e', 5)), None];
+    let mut map = ManagedMap::Borrowed(&mut places);
+    assert!(rt; map.is_sorted());
+    if let Some(value) = map.get_mut(&b'c') {
+        *value = 30;
+    }
+    assert!(rt; map.is_sorted());
+    assert!(rt; map.get_mut(&b'b').is_none());
+    assert!(rt; map.is_sorted());
+    for (key, value) in map.iter_mut() {
+        if *key == b'e' {
+            *value = 50;
+        }
+    }
+    assert!(rt; map.is_sorted());
+    assert_eq!(rt; map.len(), 3);
+    assert_eq!(rt; map.get(&b'a').copied(), Some(1));
+    assert_eq!(rt; map.get(&b'c').copied(), Some(30));
+    assert_eq!(rt; map.get(&b'e').copied(), Some(50));
+    Ok(())
+}
+
+#[test]
 fn an_owned_map_takes_the_new_value(rt: HostRuntime) -> Result<(), Fail> {
     let mut map = ManagedMap::from(BTreeMap::new(rt.alloc()));
     assert_eq!(rt; map.insert(b'a', 1u32), Ok(None));
@@ -105,6 +129,38 @@ fn an_old_key_finds_nothing(rt: HostRuntime) -> Result<(), Fail> {
     assert!(rt; map.insert(0xbe).is_none());
     assert!(rt; map.replace(new, 0xef));
     assert_eq!(rt; map.get(new).copied(), Some(0xef));
+    Ok(())
+}
+
+#[test]
+fn a_reserved_element_is_found(rt: HostRuntime) -> Result<(), Fail> {
+    let mut elements = [0u32; 2];
+    let mut slots = [SlotIndex::default(); 2];
+    let mut map = SlotMap::new(
+        ManagedSlice::Borrowed(&mut elements),
+        ManagedSlice::Borrowed(&mut slots),
+    );
+    let (first, element) = map.reserve().ok_or("full")?;
+    *element = 0xde;
+    let (second, element) = map.reserve().ok_or("full")?;
+    *element = 0xad;
+    assert!(rt; map.reserve().is_none());
+    assert_eq!(rt; map.get(first).copied(), Some(0xde));
+    assert_eq!(rt; map.get(second).copied(), Some(0xad));
+    Ok(())
+}
+
+#[test]
+fn a_list_takes_what_is_written(rt: HostRuntime) -> Result<(), Fail> {
+    let mut numbers = [1u8, 2, 3];
+    let mut borrowed = ManagedSlice::Borrowed(&mut numbers);
+    borrowed.as_mut_slice()[1] = 7;
+    assert_eq!(rt; borrowed.as_slice(), [1, 7, 3].as_slice());
+    let mut owned = ManagedSlice::from_array(rt.alloc(), [1u8, 2, 3])
+        .ok()
+        .ok_or("no memory")?;
+    owned.as_mut_slice()[2] = 9;
+    assert_eq!(rt; owned.as_slice(), [1, 2, 9].as_slice());
     Ok(())
 }
 

@@ -2,10 +2,13 @@
 ghost use Rattle.std.specs.Prelude.{◌≡◌, ◌<◌, ◌≤◌, ◌++◌, ◌↔◌, take, drop, length, slice_index_or, slice_set, IsTrue, Some, None, IsErr, IfOk, IfErr, OnOk, OnErr};
 ghost use Rattle.std.specs.Option.{option_copied, option_copied_mut, option_map};
 ghost use Rattle.std.specs.Map.{remove_entry};
+ghost use Rattle.std.specs.Borrow.{sem};
 ghost use Rattle.std.specs.BTreeMap.{is_at};
+ghost use Rattle.managed.specs.MapLoans.{lends_among};
 ghost use Rattle.managed.specs.Places.{pushed, closed_up};
 ghost use Rattle.managed.specs.SortedMap.{IsPacked, IsVacant, IsSortedPlaces, Precedes, filled, value_at, with_pair, IsPlacesRefusal};
 
+use super::loan::value_of;
 use super::places::{push_along, take_out};
 use super::search::search;
 use crate::InsertError;
@@ -26,13 +29,11 @@ pub(super) fn get<'a, K: Ord, V>(places: &'a [Option<(K, V)>], key: &K) -> Optio
 
 pub(super) fn get_mut<'a, K: Ord, V>(places: &'a mut [Option<(K, V)>], key: &K) -> Option<&'a mut V>
     requires { IsSortedPlaces K.cmp places.old }
-    ensures { option_copied_mut result ≡ value_at K.cmp (filled places.old) key.now }
+    ensures* written { sem 𝓛 (lends_among K.row V.row K.Ord places.entry key.now result) }
+    ensures value { option_copied_mut result ≡ value_at K.cmp (filled places.old) key.now }
 {
     match search(places, key) {
-        Ok(at) => match &mut places[at] {
-            Some((_, value)) => Some(value),
-            None => None,
-        },
+        Ok(at) => value_of(places, at),
         Err(_) => None,
     }
 }

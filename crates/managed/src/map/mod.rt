@@ -2,6 +2,7 @@
 ghost use Rattle.std.specs.Prelude.{◌≡◌, ◌↔◌, [], None, length, IsTrue, IsErr, IfOk, IfErr, OnOk, OnErr};
 ghost use Rattle.std.specs.Option.{option_copied, option_copied_mut};
 ghost use Rattle.std.specs.Map.{remove_entry};
+ghost use Rattle.std.specs.Borrow.{sem};
 ghost use Rattle.std.specs.BTreeMap.{is_at};
 ghost use Rattle.std.specs.BTreeMap.Range.{entries_between};
 ghost use Rattle.std.specs.Range.Bound.{bound_map};
@@ -10,6 +11,7 @@ ghost use Rattle.managed.specs.declared.map.ManagedMap.TheVariants.{Borrowed, Ow
 mod borrowed;
 mod iter;
 mod iter_mut;
+mod loan;
 mod places;
 mod range;
 mod search;
@@ -18,6 +20,8 @@ use crate::InsertError;
 pub use iter::Iter;
 use iter::Pairs;
 pub use iter_mut::IterMut;
+use iter_mut::{over_pairs, over_places, pairs_of};
+use loan::{places_behind, value_in_tree};
 pub use range::Range;
 use range::Span;
 use std::collections::BTreeMap;
@@ -61,6 +65,8 @@ impl<'a, K: Ord + fmt::Debug, V: fmt::Debug> fmt::Debug for ManagedMap<'a, K, V>
 impl<'a, K: Ord, V> ManagedMap<'a, K, V> {
     ghost use Rattle.managed.specs.SortedMap.{pairs, value_at, inserted, IsFull, IsRefusal, IsSortedMap, KeepsStorage};
     ghost use Rattle.managed.specs.Walk.{pairs_to_write};
+    ghost use Rattle.managed.specs.MapLoans.{lends_in_map};
+    ghost use Rattle.managed.specs.WalkLoans.{KeepsTreeKeys, lends_walk};
 
     /// Whether the keys rise strictly and the empty places come last, as each other call but `clear`
     /// asks of borrowed places.
@@ -164,11 +170,12 @@ impl<'a, K: Ord, V> ManagedMap<'a, K, V> {
     /// The value of a key, for writing.
     pub fn get_mut(&mut self, key: &K) -> Option<&mut V>
         requires { IsSortedMap K.cmp self.old }
-        ensures { option_copied_mut result ≡ value_at K.cmp (pairs self.old) key.now }
+        ensures* written { sem 𝓛 (lends_in_map K.row V.row K.Ord self.entry key.now result) }
+        ensures value { option_copied_mut result ≡ value_at K.cmp (pairs self.old) key.now }
     {
         match self {
-            ManagedMap::Borrowed(places) => borrowed::get_mut(places, key),
-            ManagedMap::Owned(tree) => tree.get_mut(key),
+            ManagedMap::Borrowed(places) => borrowed::get_mut(places_behind(places), key),
+            ManagedMap::Owned(tree) => value_in_tree(tree, key),
         }
     }
 
@@ -188,11 +195,13 @@ impl<'a, K: Ord, V> ManagedMap<'a, K, V> {
     /// The pairs in key order, each once, with their values for writing.
     pub fn iter_mut(&mut self) -> IterMut<'_, K, V>
         requires { IsSortedMap K.cmp self.old }
+        ensures* written { sem 𝓛 (lends_walk K.row V.row K.Ord self.entry result) }
+        ensures others { KeepsTreeKeys self.old }
         ensures rest { pairs_to_write result ≡ pairs self.old }
     {
         match self {
-            ManagedMap::Borrowed(places) => IterMut::Borrowed(places.iter_mut()),
-            ManagedMap::Owned(tree) => IterMut::Owned(tree.iter_mut()),
+            ManagedMap::Borrowed(places) => over_places(places_behind(places)),
+            ManagedMap::Owned(tree) => over_pairs(pairs_of(tree)),
         }
     }
 

@@ -7,5 +7,7 @@ returns g c = record {
   written = λ m place w. elements-written m.owned m.borrowed place w;
   places = λ m place w. refl;
   freed = λ m place. refl;
+  handed = λ m. refl;
   others = λ m place. refl;
+  rest = λ m. refl;
 }

@@ -1,4 +1,4 @@
-use Rattle.managed.proofs.PlacesLemmas.{filled_vacant, sorted_vacant}
+use Rattle.managed.proofs.PackedLemmas.{filled_vacant, sorted_vacant}
 use Rattle.managed.proofs.map.ManagedMap.clear.Goals as goal
 
 pub returns-in-Borrowed-clause-empty : goal.returns-in-Borrowed-clause-empty

@@ -1,5 +1,5 @@
 use Rattle.std.proofs.Common.{arith}
-use Rattle.managed.proofs.PlacesLemmas.{vacant_from}
+use Rattle.managed.proofs.PackedLemmas.{vacant_from}
 use Rattle.managed.proofs.map.borrowed.clear.Goals as goal
 
 pub returns : goal.returns

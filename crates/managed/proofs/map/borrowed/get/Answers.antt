@@ -1,5 +1,5 @@
 use Rattle.std.proofs.Common.{sym}
-use Rattle.managed.proofs.PlacesLemmas.{found_some, found_none, gap_value}
+use Rattle.managed.proofs.FoundLemmas.{found_some, found_none, gap_value}
 use Rattle.managed.proofs.map.borrowed.get.Goals as goal
 
 -- the key is at its place, and the pair there was read

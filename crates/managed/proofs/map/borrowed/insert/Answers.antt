@@ -1,6 +1,8 @@
 use Rattle.std.proofs.Common.{◌≡◌, ◌<◌, length, refl, sym, ◌∙◌, arith}
 use Rattle.managed.specs.SortedMap.{filled}
-use Rattle.managed.proofs.PlacesLemmas.{found_value, found_there, gap_value, filled_le, filled-set, packed-set, filled-inserted, packed-inserted, sorted_with_pair}
+use Rattle.managed.proofs.FoundLemmas.{found_value, found_there, gap_value, sorted_with_pair}
+use Rattle.managed.proofs.PackedLemmas.{filled_le}
+use Rattle.managed.proofs.EditLemmas.{filled-set, packed-set, filled-inserted, packed-inserted}
 use Rattle.managed.proofs.map.borrowed.insert.Goals as goal
 
 -- the key is there, and its pair is replaced

@@ -1,5 +1,5 @@
 use Rattle.std.proofs.Common.{arith}
-use Rattle.managed.proofs.PlacesLemmas.{full_last}
+use Rattle.managed.proofs.PackedLemmas.{full_last}
 use Rattle.managed.proofs.map.borrowed.is_full.Goals as goal
 
 -- the last place tells

@@ -1,5 +1,5 @@
 use Rattle.std.proofs.Common.{refl, arith, rules}
-use Rattle.managed.proofs.PlacesLemmas.{sorted_from_steps, steps_at, steps_more}
+use Rattle.managed.proofs.SortedLemmas.{sorted_from_steps, steps_at, steps_more}
 use Rattle.managed.proofs.map.borrowed.is_sorted.Goals as goal
 
 -- two places stand the wrong way round

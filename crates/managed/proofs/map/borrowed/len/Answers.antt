@@ -1,6 +1,6 @@
 use Rattle.std.proofs.Common.{is_some, None, arith, rules}
 use Rattle.std.proofs.lemmas.List.Sorted.{IsPartitionPoint-from_clause}
-use Rattle.managed.proofs.PlacesLemmas.{packed_parted, parted_len}
+use Rattle.managed.proofs.PackedLemmas.{packed_parted, parted_len}
 use Rattle.managed.proofs.map.borrowed.len.Goals as goal
 
 -- the pairs come first

@@ -2,7 +2,8 @@ use Rattle.std.proofs.Common.{sym, ap, ◌∙◌}
 use Rattle.std.specs.Option.{option_map}
 use Rattle.std.specs.BTreeMap.{is_at}
 use Rattle.managed.specs.SortedMap.{filled}
-use Rattle.managed.proofs.PlacesLemmas.{found_value, found_no_gap, gap_value, filled-closed_up, packed-closed_up, sorted_removed, removed_none}
+use Rattle.managed.proofs.FoundLemmas.{found_value, found_no_gap, gap_value, sorted_removed, removed_none}
+use Rattle.managed.proofs.EditLemmas.{filled-closed_up, packed-closed_up}
 use Rattle.managed.proofs.map.borrowed.remove.Goals as goal
 
 -- the key is there, and its pair is taken out

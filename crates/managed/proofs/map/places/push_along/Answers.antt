@@ -1,6 +1,6 @@
 use Rattle.std.proofs.Common.{◌≡◌, get_or, None, arith}
 use Rattle.std.proofs.lemmas.Grind.{common_steps}
-use Rattle.managed.proofs.PlacesLemmas.{pushed_stop}
+use Rattle.managed.proofs.EditLemmas.{pushed_stop}
 use Rattle.managed.proofs.map.places.push_along.Goals as goal
 
 -- the item went into an empty place

@@ -1,5 +1,5 @@
 use Rattle.std.proofs.Common.{add-one}
-use Rattle.managed.proofs.RangeLemmas.{le_found, lt_found, le_gap, lt_gap, cut_end}
+use Rattle.managed.proofs.CutLemmas.{le_found, lt_found, le_gap, lt_gap, cut_end}
 use Rattle.managed.proofs.map.range.end_of.Goals as goal
 
 pub returns-in-Ok-clause-cut : goal.returns-in-Ok-clause-cut

@@ -1,7 +1,7 @@
 use Rattle.std.proofs.Common.{rules}
 use Rattle.std.proofs.lemmas.Fn.{always_returns_same}
 use Rattle.managed.specs.Places.{place_order}
-use Rattle.managed.proofs.PlacesLemmas.{searched}
+use Rattle.managed.proofs.SearchLemmas.{searched}
 use Rattle.managed.proofs.map.search.search.Goals as goal
 
 -- the closure compares a place's key with the one that is sought

@@ -1,7 +1,7 @@
 use Rattle.std.proofs.Common.{◌≡◌, get_or, map, take, Some, None, add-one, arith}
 use Rattle.managed.specs.Elements.{elements_in}
 use Rattle.managed.specs.SlotLinks.{generation_of}
-use Rattle.managed.proofs.SlotLemmas.{freed_live, use_freed_live, live_room}
+use Rattle.managed.proofs.SlotCallLemmas.{freed_live, use_freed_live, live_room}
 use Rattle.managed.proofs.slot_links.SlotLinks.free.Goals as goal
 
 pub overflow_add-self : goal.overflow_add-self

@@ -1,6 +1,6 @@
 use Rattle.std.proofs.Common.{refl, arith}
 use Rattle.managed.specs.Elements.{elements_in}
-use Rattle.managed.proofs.SlotLemmas.{full}
+use Rattle.managed.proofs.SlotCallLemmas.{full}
 use Rattle.managed.proofs.slot_links.SlotLinks.take.Goals as goal
 
 -- no place is left

@@ -1,6 +1,7 @@
 use Rattle.std.proofs.Common.{◌<◌, ◌-◌, suc, ◌≡◌, arith}
 use Rattle.managed.specs.Elements.{elements_in}
-use Rattle.managed.proofs.SlotLemmas.{taken, use_taken, not_full, first_below, length_freed}
+use Rattle.managed.proofs.SlotCallLemmas.{taken, use_taken, not_full, first_below}
+use Rattle.managed.proofs.SlotReadLemmas.{length_freed}
 use Rattle.managed.proofs.slot_links.SlotLinks.take_free.Goals as goal
 
 pub link_of-next-requires : goal.link_of-next-requires

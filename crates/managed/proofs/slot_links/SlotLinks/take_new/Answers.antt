@@ -1,6 +1,8 @@
 use Rattle.std.proofs.Common.{◌<◌, add-one, arith}
 use Rattle.managed.specs.Elements.{elements_in}
-use Rattle.managed.proofs.SlotLemmas.{taken_new, use_taken_new, new_not_full, length_gens}
+use Rattle.managed.proofs.SlotStepLemmas.{taken_new}
+use Rattle.managed.proofs.SlotCallLemmas.{use_taken_new, new_not_full}
+use Rattle.managed.proofs.SlotReadLemmas.{length_gens}
 use Rattle.managed.proofs.slot_links.SlotLinks.take_new.Goals as goal
 
 pub invariant_of-self : goal.invariant_of-self
