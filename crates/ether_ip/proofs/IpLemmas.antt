@@ -5,7 +5,7 @@ use Rattle.std.proofs.lemmas.Bool.Decides.{nat_tests}
 use Rattle.std.proofs.lemmas.List.{get_or-take}
 use Rattle.ether_link.specs.declared.err.length.LenError.{LenError}
 use Rattle.ether_link.specs.Form.{header_len, refusal}
-use Rattle.ether_link.proofs.FormLemmas.{has_header, no_early}
+use Rattle.ether_link.proofs.FormLemmas.{has_header, is_false, no_early}
 use Rattle.ether_ip.specs.Version.{ip_version, ihl}
 use Rattle.ether_ip.specs.Ip.{ip_form, ip_slice_form}
 use Rattle.ether_ip.specs.Ipv4.{ipv4_form, ipv4_slice_form}
@@ -16,10 +16,6 @@ use Rattle.ether_ip.specs.declared.err.ipv4.HeaderError as ipv4
 use Rattle.ether_ip.specs.declared.err.ipv4.HeaderSliceError as ipv4_slice
 use Rattle.ether_ip.specs.declared.err.ipv6.HeaderError as ipv6
 use Rattle.ether_ip.specs.declared.err.ipv6.HeaderSliceError as ipv6_slice
-
-is_false : {E : Type 0} (b : Bool) (x : E) → cond b (Some x) None ≡ None → b ≡ false
-is_false true x e = absurd (cc)
-is_false false x e = refl
 
 is_true : {E : Type 0} (b : Bool) (x : E) → cond b None (Some x) ≡ None → b ≡ true
 is_true true x e = refl

@@ -9,7 +9,7 @@ use Rattle.ether_link.specs.declared.len_source.LenSource.{LenSource}
 use Rattle.ether_link.specs.declared.len_source.LenSource.TheVariants.{Slice}
 use Rattle.ether_link.specs.Form.{Form, or_else, short, long, header_len, refusal, IsHeader, IsSameHeader}
 
-is_false : {E : Type 0} (b : Bool) (x : E) → cond b (Some x) None ≡ None → b ≡ false
+pub is_false : {E : Type 0} (b : Bool) (x : E) → cond b (Some x) None ≡ None → b ≡ false
 is_false true x e = absurd (cc)
 is_false false x e = refl
 
