@@ -8,3 +8,4 @@ pub mod DnsName
 pub mod DnsLabels
 pub mod DnsMessage
 pub mod DnsRead
+pub mod DnsExamples
