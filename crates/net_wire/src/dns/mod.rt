@@ -11,7 +11,7 @@ mod tests;
 
 pub use dns_type::DnsType;
 pub use flags::HeaderFlags;
-pub use name::Labels;
+pub use name::{Labels, name_len};
 pub use packet::Packet;
 pub use query::Repr;
 pub use question::Question;

@@ -52,7 +52,7 @@ impl<'a> Labels<'a> {
     ghost use Rattle.net_wire.specs.DnsLabels.{labels_left};
 
     /// The labels of the name that stands first in the bytes.
-    pub(crate) fn new(message: &'a [u8], bytes: &'a [u8]) -> Labels<'a>
+    pub fn new(message: &'a [u8], bytes: &'a [u8]) -> Labels<'a>
         ensures value { labels_left result ≡ labels_at message.now bytes.now }
     {
         Labels {
@@ -126,7 +126,7 @@ fn first_label<'a>(
 
 /// How many bytes the name has in place that stands first in the bytes.
 #[tactic(auto, using(crate::proofs::DnsNameLemmas::name_len_piece))]
-pub(crate) fn name_len(bytes: &[u8]) -> Option<usize>
+pub fn name_len(bytes: &[u8]) -> Option<usize>
     ensures value { result ≡ name_len bytes.now }
     ensures within { IfSome result (λ len. len ≤ length bytes.now) }
 {
