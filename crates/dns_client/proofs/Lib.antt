@@ -4,3 +4,4 @@ pub mod AnswerLemmas
 pub mod ChainLemmas
 pub mod ResponseLemmas
 pub mod WalkLemmas
+pub mod UndecidedLemmas

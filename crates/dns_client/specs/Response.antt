@@ -1,5 +1,5 @@
 -- Which response reaches a query, and what it decides (RFC 1035, section 7.3; RFC 5452, section 9.1).
-use Rattle.std.specs.Prelude.{◌≡◌, ℕ, ◌==◌, ◌&&◌, ◌||◌, nat_le, nat_eq, bit_and, Bool, true, false, List, [], ◌∷◌, drop, map, length, Option, Some, None, option_map, if◌then◌else◌}
+use Rattle.std.specs.Prelude.{◌≡◌, ℕ, ◌==◌, ◌&&◌, ◌||◌, nat_le, nat_eq, bit_and, Bool, true, false, List, [], ◌∷◌, drop, map, length, Option, Some, None, option_map, is_some, if◌then◌else◌}
 use Rattle.std.specs.List.{list_any}
 use Rattle.std.specs.Cmp.Lexicographic.{pointwise}
 use Rattle.net_wire.specs.declared.address.IpAddress.{IpAddress}
@@ -120,3 +120,23 @@ heard arrived message slots =
 abbrev pub after_response : Arrived → List ℕ → Slots → Slots
 after_response arrived message slots =
     if nat_le 12 (length message) && is_response message then heard arrived message slots else slots
+
+-- the first slot that a response reaches
+abbrev pub first_reached : Arrived → Slots → Option DnsQuery
+first_reached arrived [] = None
+first_reached arrived (slot ∷ slots) = if reaches arrived slot then slot else first_reached arrived slots
+
+abbrev pub has_answer : List ℕ → Option DnsQuery → Bool
+has_answer message None = false
+has_answer message (Some query) = is_some (answer_in message query.state)
+
+-- A response decides a query: it reaches one, and the name does not exist, or it answers the first one that it reaches.
+abbrev pub decides : Arrived → List ℕ → Slots → Bool
+decides arrived message slots =
+    nat_le 12 (length message) && is_response message && is_some (first_reached arrived slots)
+    && ((rcode_of message == 3) || has_answer message (first_reached arrived slots))
+
+-- a response that decides no query leaves every query as it was, its name included
+abbrev pub UndecidedIsUnchanged : Type 0
+UndecidedIsUnchanged = (arrived : Arrived) (message : List ℕ) (slots : Slots)
+    → decides arrived message slots ≡ false → after_response arrived message slots ≡ slots

@@ -6,6 +6,7 @@ mod answer;
 mod dispatch;
 mod emit;
 mod error;
+pub mod laws;
 mod look;
 mod name;
 mod query;
@@ -13,6 +14,8 @@ mod response;
 mod slots;
 mod socket;
 mod start;
+#[cfg(test)]
+mod tests;
 
 pub use emit::DnsEmit;
 pub use error::{GetQueryResultError, StartQueryError};

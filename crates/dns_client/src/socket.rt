@@ -15,11 +15,22 @@ use net_wire::dns::Packet;
 use net_wire::{EmitError, Instant, IpAddress};
 
 /// A DNS client (RFC 1035, section 7). Its slots are a caller's, or a list that grows.
-#[derive(Debug, Drop)]
+#[derive(Debug)]
 pub struct Socket<'a> {
     pub(crate) servers: ArrayVec<IpAddress, 3>,
     pub(crate) queries: ManagedSlice<'a, Option<DnsQuery>>,
     pub(crate) hop_limit: Option<u8>,
+}
+
+impl<'a> Drop for Socket<'a> {
+    fn drop(self) {
+        let Socket {
+            servers: _,
+            queries,
+            hop_limit: _,
+        } = self;
+        let _ = queries;
+    }
 }
 
 /// Whether an address is one of the servers.
