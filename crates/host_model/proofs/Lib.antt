@@ -1,3 +1,5 @@
 pub mod ChronicleLemmas
 pub mod ClassLemmas
+pub mod PartLemmas
 pub mod ScriptLemmas
+pub mod SomeLemmas

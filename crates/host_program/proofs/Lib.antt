@@ -1,5 +1,6 @@
 pub mod CommandLemmas
 pub mod DigitLemmas
 pub mod EndingLemmas
+pub mod StatusLemmas
 pub mod TextLemmas
 pub mod WordLemmas

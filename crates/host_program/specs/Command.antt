@@ -58,10 +58,10 @@ pub record IsRunnable (run : RunCommand) : Type 0 where
   pub some : 1 ≤ run.max_events
   pub limit : run.max_events ≤ 10000
 
--- the settings of a host to which only its hardware address was told
-abbrev pub settings_named : EthernetAddress → Settings
-settings_named hardware = record {
-  hardware = hardware;
+-- the settings of the host of a run, to which only its hardware address was told
+abbrev pub settings_named : RunCommand → Settings
+settings_named run = record {
+  hardware = run.hardware;
   ip_mtu = 1500;
   retry = default_retry;
   server_port = 67;

@@ -11,3 +11,5 @@ pub mod ReadingLemmas
 pub mod RefusedLemmas
 pub mod ReportLemmas
 pub mod SmallLemmas
+pub mod StoppedLemmas
+pub mod WordLemmas
