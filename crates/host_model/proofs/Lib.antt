@@ -1,3 +1,4 @@
 pub mod ChronicleLemmas
 pub mod ClassLemmas
 pub mod ScriptLemmas
+pub mod SinceLemmas

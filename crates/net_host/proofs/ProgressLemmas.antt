@@ -3,9 +3,10 @@ use Rattle.std.proofs.Common.{◌≡◌, ℕ, ◌+◌, ◌*◌, ◌<◌, ◌≤�
 use Rattle.std.specs.Io.KnownBytes.{Appends, Consumes}
 use Rattle.phy_layers.specs.PcapBytes.{epoch_micros}
 use Rattle.host_model.specs.Script.{Event, spelled, spelling, IsNext, AreInOrder, last_time}
+use Rattle.host_model.specs.declared.words.EventWords.{EventWords}
 use Rattle.host_model.specs.Settings.{Settings}
 use Rattle.host_model.specs.History.{Entry}
-use Rattle.host_model.specs.Chronicle.{history, first_word}
+use Rattle.host_model.specs.Chronicle.{history, words_at}
 use Rattle.net_host.specs.declared.host.Host.{Host}
 use Rattle.net_host.specs.declared.report.Row.{Row}
 use Rattle.net_host.specs.declared.script.ScriptEvent.{ScriptEvent}
@@ -61,21 +62,21 @@ reached settings words max left_old left_now left_new captured_old captured_now 
 
 -- and one that was
 pub goes_on : (settings : Settings) (words : List ℕ) (max : ℕ) (left_old left_now left_new captured_old captured_now captured_new : Option (List ℕ))
-    (count last offset len : ℕ) (host_old host_new : Host) (report_old report_new : List Row) (at : ℤ) (event : ScriptEvent) (word : ℕ)
+    (count last offset len : ℕ) (host_old host_new : Host) (report_old report_new : List Row) (at : ℤ) (event : ScriptEvent) (drawn : EventWords)
     → Progress settings words left_old left_now captured_old captured_now count last offset host_old report_old
-    → count < max → CanRun settings → at ≡ pos (epoch_micros at) → word ≡ first_word words count → 3 * (count + 1) ≤ length words
+    → count < max → CanRun settings → at ≡ pos (epoch_micros at) → drawn ≡ words_at words count → 3 * (count + 1) ≤ length words
     → len ≡ length (spelled (event_at at event))
     → GivesEvent last left_now left_new at event
-    → TakesEvent at event word host_old host_new captured_now captured_new report_old report_new
+    → TakesEvent at event drawn host_old host_new captured_now captured_new report_old report_new
     → Progress settings words left_old left_new captured_old captured_new (count + 1) (epoch_micros at) (offset + len) host_new report_new
-goes_on settings words max left_old left_now left_new captured_old captured_now captured_new count last offset len host_old host_new report_old report_new at event word
-    progress below can is_time is_word enough is_len gives takes =
+goes_on settings words max left_old left_now left_new captured_old captured_now captured_new count last offset len host_old host_new report_old report_new at event drawn
+    progress below can is_time is_drawn enough is_len gives takes =
     let e = event_at at event in
     let next = reached settings words max left_old left_now left_new captured_old captured_now count last offset host_old report_old at event progress below gives in
     let counted = rows_count settings words [] progress.events report_old progress.rows in
-    let is_place : word ≡ first_word words (length (history settings words progress.events)) =
-    is_word ∙ ap (first_word words) (sym progress.counted ∙ sym (length-history_from settings words [] progress.events ∙ zero-add (length progress.events))) in
-    let done = placed settings words (history settings words progress.events) at event word host_old host_new report_old report_new takes.places is_time can progress.agrees is_place in
+    let is_place : drawn ≡ words_at words (length (history settings words progress.events)) =
+    is_drawn ∙ ap (words_at words) (sym progress.counted ∙ sym (length-history_from settings words [] progress.events ∙ zero-add (length progress.events))) in
+    let done = placed settings words (history settings words progress.events) at event drawn host_old host_new report_old report_new takes.places is_time can progress.agrees is_place in
     let grown = capture_push progress.events report_old e takes.places.row counted in
     let S : List Row → Type 0 = λ rows. Appends captured_old captured_new (run_capture (progress.events ++ e ∷ []) rows) in
     let T : List ℕ → Type 0 = λ l. Appends captured_old captured_new l in

@@ -1,10 +1,11 @@
 -- What a run leaves that the capture or want of memory stopped.
-use Rattle.std.proofs.Common.{◌≡◌, ℕ, ◌<◌, inl, inr, ⊎_elim, ℤ, pos, List, [], ◌∷◌, ◌++◌, length, Option, None, IfSome, ap, sym, subst, ◌∙◌, refl, arith, append-nil, zero-add}
+use Rattle.std.proofs.Common.{◌≡◌, ℕ, ◌<◌, inl, inr, ⊎_elim, ℤ, pos, List, [], ◌∷◌, ◌++◌, length, Option, IfSome, ap, sym, subst, ◌∙◌, refl, arith, append-nil, zero-add}
 use Rattle.wire_base.specs.Causes.{AppendsFront}
 use Rattle.phy_layers.specs.PcapBytes.{epoch_micros, global_header}
 use Rattle.host_model.specs.Script.{spelling}
+use Rattle.host_model.specs.declared.words.EventWords.{EventWords}
 use Rattle.host_model.specs.Settings.{Settings}
-use Rattle.host_model.specs.Chronicle.{history, first_word}
+use Rattle.host_model.specs.Chronicle.{history, words_at}
 use Rattle.net_host.specs.declared.host.Host.{Host}
 use Rattle.net_host.specs.declared.report.Row.{Row}
 use Rattle.net_host.specs.declared.script.ScriptEvent.{ScriptEvent}
@@ -51,19 +52,19 @@ header_refused settings words max left captured_old captured_new report error em
 
 -- what an event leaves that was not taken in to its end
 pub event_refused : (settings : Settings) (words : List ℕ) (max : ℕ) (left_old left_now left_new captured_old captured_now captured_new : Option (List ℕ))
-    (count last offset : ℕ) (host_old host_new : Host) (report_old report_new : List Row) (at : ℤ) (event : ScriptEvent) (word : ℕ)
+    (count last offset : ℕ) (host_old host_new : Host) (report_old report_new : List Row) (at : ℤ) (event : ScriptEvent) (drawn : EventWords)
     → Progress settings words left_old left_now captured_old captured_now count last offset host_old report_old
-    → count < max → CanRun settings → at ≡ pos (epoch_micros at) → word ≡ first_word words count
+    → count < max → CanRun settings → at ≡ pos (epoch_micros at) → drawn ≡ words_at words count
     → GivesEvent last left_now left_new at event
-    → LeavesEvent at event word host_old host_new captured_now captured_new report_old report_new
+    → LeavesEvent at event drawn host_old host_new captured_now captured_new report_old report_new
     → Interrupted settings words max left_old captured_old captured_new report_new
-event_refused settings words max left_old left_now left_new captured_old captured_now captured_new count last offset host_old host_new report_old report_new at event word
-    progress below can is_time is_word gives leaves =
+event_refused settings words max left_old left_now left_new captured_old captured_now captured_new count last offset host_old host_new report_old report_new at event drawn
+    progress below can is_time is_drawn gives leaves =
     let e = event_at at event in
     let next = reached settings words max left_old left_now left_new captured_old captured_now count last offset host_old report_old at event progress below gives in
     let counted = rows_count settings words [] progress.events report_old progress.rows in
-    let is_place : word ≡ first_word words (length (history settings words progress.events)) =
-    is_word ∙ ap (first_word words) (sym progress.counted ∙ sym (length-history_from settings words [] progress.events ∙ zero-add (length progress.events))) in
+    let is_place : drawn ≡ words_at words (length (history settings words progress.events)) =
+    is_drawn ∙ ap (words_at words) (sym progress.counted ∙ sym (length-history_from settings words [] progress.events ∙ zero-add (length progress.events))) in
     let R : List Row → Type 0 = λ rows. AreRows settings words progress.events rows in
     let Q : List Row → Type 0 = λ rows. AppendsFront captured_old captured_new (run_capture progress.events rows) in
     ⊎_elim
@@ -76,9 +77,9 @@ event_refused settings words max left_old left_now left_new captured_old capture
       captured = subst Q (sym none.same) (kept_front captured_old captured_now captured_new (run_capture progress.events report_old) progress.captured none.kept);
     })
     (⊎_elim
-    (λ (begun : LeavesNewRow at event captured_now captured_new report_old report_new).
+    (λ (begun : LeavesNewRow at event host_old captured_now captured_new report_old report_new).
     let S : List Row → Type 0 = λ rows. AppendsFront captured_old captured_new (run_capture (progress.events ++ e ∷ []) rows) in
-    let row = new_row at (kind_of (arrival_of event)) None in
+    let row = new_row at (kind_of (arrival_of event)) host_old.lease in
     let grown = capture_push progress.events report_old e row counted in
     let T : List ℕ → Type 0 = λ l. AppendsFront captured_old captured_new l in
     record {
@@ -91,19 +92,20 @@ event_refused settings words max left_old left_now left_new captured_old capture
         event = e;
         done = report_old;
         event_last = refl;
-        row_last = begun.placed ∙ ap (λ t. report_old ++ new_row t (kind_of (arrival_of event)) None ∷ []) is_time;
+        row_last = begun.placed ∙ ap (λ t. report_old ++ new_row t (kind_of (arrival_of event)) host_old.lease ∷ []) is_time
+            ∙ ap (λ l. report_old ++ new_row (pos (epoch_micros at)) (kind_of (arrival_of event)) l ∷ []) progress.agrees.lease;
         rows = progress.rows;
       });
       captured = subst S (sym begun.placed) (subst T (sym grown)
           (AppendsFront-longer captured_old captured_new (run_capture progress.events report_old) (event_records e row)
           (kept_front captured_old captured_now captured_new (run_capture progress.events report_old) progress.captured begun.kept)));
     })
-    (λ (front : LeavesFront at event word host_old host_new captured_now captured_new report_old report_new).
+    (λ (front : LeavesFront at event drawn host_old host_new captured_now captured_new report_old report_new).
     let S : List Row → Type 0 = λ rows. AppendsFront captured_old captured_new (run_capture (progress.events ++ e ∷ []) rows) in
     let U : List Row → Type 0 = λ rows. AreRows settings words (progress.events ++ e ∷ []) rows in
     let grown = capture_push progress.events report_old e front.places.row counted in
     let T : List ℕ → Type 0 = λ l. AppendsFront captured_old captured_new l in
-    let done = placed settings words (history settings words progress.events) at event word host_old host_new report_old report_new front.places is_time can progress.agrees is_place in
+    let done = placed settings words (history settings words progress.events) at event drawn host_old host_new report_old report_new front.places is_time can progress.agrees is_place in
     record {
       events = progress.events ++ e ∷ [];
       read = front_of left_old left_new (spelling (progress.events ++ e ∷ [])) next.taken;

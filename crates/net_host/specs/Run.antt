@@ -1,10 +1,14 @@
 -- What a run leaves, whatever it answers.
-use Rattle.std.specs.Prelude.{◌≡◌, ℕ, ◌*◌, ◌<◌, ◌≤◌, ◌⊎◌, ⊤, List, [], ◌∷◌, ◌++◌, Option, None, length, pos, IfSome, Result, IsOk}
+use Rattle.std.specs.Prelude.{◌≡◌, ℕ, ◌*◌, ◌<◌, ◌≤◌, ◌⊎◌, ⊤, List, [], ◌∷◌, ◌++◌, Option, length, pos, IfSome, Result, IsOk}
 use Rattle.std.specs.Result.{IsErrOf}
 use Rattle.std.specs.Io.KnownBytes.{Appends, IsAtEnd}
 use Rattle.wire_base.specs.Causes.{AppendsFront, IsRisen}
+use Rattle.net_wire.specs.declared.address.Ipv4Cidr.{Ipv4Cidr}
 use Rattle.host_model.specs.Script.{Event, spelling, AreInOrder, IsScript, IsOverLimit, IsBrokenAt}
 use Rattle.host_model.specs.Settings.{Settings}
+use Rattle.host_model.specs.Anchor.{anchor_before}
+use Rattle.host_model.specs.Chronicle.{history}
+use Rattle.host_model.specs.Lease.{leased_under}
 use Rattle.net_host.specs.declared.report.Row.{Row}
 use Rattle.net_host.specs.declared.run_script.RunError.{RunError}
 use Rattle.net_host.specs.declared.run_script.RunError.TheVariants.{Script, Limit, Words, Read, Sink, NoMemory}
@@ -35,13 +39,17 @@ pub record Stopped (settings : Settings) (words : List ℕ) (max : ℕ) (left_ol
   pub rows : AreRows settings words events report
   pub captured : Appends captured_old captured_new (run_capture events report)
 
+-- the address that is held when an event comes behind these
+abbrev pub lease_before : Settings → List ℕ → List Event → Option Ipv4Cidr
+lease_before settings words events = leased_under (anchor_before settings (history settings words events))
+
 -- the last row is that of an event in which nothing was sent yet
 pub record IsUnfinished (settings : Settings) (words : List ℕ) (events : List Event) (report : List Row) : Type 0 where
   pub earlier : List Event
   pub event : Event
   pub done : List Row
   pub event_last : events ≡ earlier ++ event ∷ []
-  pub row_last : report ≡ done ++ new_row (pos event.at) (kind_of event.arrival) None ∷ []
+  pub row_last : report ≡ done ++ new_row (pos event.at) (kind_of event.arrival) (lease_before settings words earlier) ∷ []
   pub rows : AreRows settings words earlier done
 
 -- A run that the capture or want of memory stopped: the events so far have their rows, but for the last one, which may be

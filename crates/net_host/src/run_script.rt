@@ -6,7 +6,7 @@ ghost use Rattle.wire_base.specs.Causes.{IsRisen, AppendsFront};
 ghost use Rattle.phy_layers.specs.Sink.{Took};
 ghost use Rattle.phy_layers.specs.PcapBytes.{epoch_micros, IsCapturable};
 ghost use Rattle.host_model.specs.Script.{spelled, IsScript};
-ghost use Rattle.host_model.specs.Chronicle.{first_word};
+ghost use Rattle.host_model.specs.Chronicle.{words_at};
 ghost use Rattle.net_host.specs.Captured.{sent_records};
 ghost use Rattle.net_host.specs.Report.{AreCapturable};
 ghost use Rattle.net_host.specs.Polling.{IsReady};
@@ -19,6 +19,7 @@ ghost use Rattle.net_host.specs.declared.report.Sent.{Sent};
 use crate::host::Host;
 use crate::script::next_event;
 use crate::{HostConfig, Kind, ReadEventError, Report, ScriptEvent, ScriptSource, Sent};
+use host_model::EventWords;
 use net_wire::{Instant, NoMemory};
 use phy_layers::{PcapLinkType, PcapSink, SinkError};
 use std::alloc::Global;
@@ -80,16 +81,20 @@ impl From<NoMemory> for RunError {
     }
 }
 
-/// The first of the words of the event at a place, where all three are left.
-fn word_at(words: &[u32], place: u32) -> Option<u32>
-    ensures found { IfSome result (λ word. (word ≡ first_word words.now place) × (3 * (place + 1) ≤ length words.now)) }
+/// The words of the event at a place, where all three are left.
+fn words_at(words: &[u32], place: u32) -> Option<EventWords>
+    ensures found { IfSome result (λ event_words. (event_words ≡ words_at words.now place) × (3 * (place + 1) ≤ length words.now)) }
     ensures refuses { IfNone result (length words.now < 3 * (place + 1)) }
 {
     let first = place as usize * 3;
     if words.len() < first + 3 {
         None
     } else {
-        Some(words[first])
+        Some(EventWords {
+            first: words[first],
+            second: words[first + 1],
+            third: words[first + 2],
+        })
     }
 }
 
@@ -114,31 +119,31 @@ fn capture_sent<C: PcapSink>(capture: &mut C, at: Instant, sent: &[Sent]) -> Res
     Ok(())
 }
 
-/// Takes an event in: places its row, sends what it brings about, and captures that. `word` is the first of its words.
+/// Takes an event in: places its row, sends what it brings about, and captures that.
 fn take_event<C: PcapSink>(
     host: &mut Host<'_>,
     capture: &mut C,
     report: &mut Report,
     at: Instant,
     event: ScriptEvent,
-    word: u32,
+    words: EventWords,
 ) -> Result<(), RunError>
     requires ready { IsReady host.old.dhcp host.old.ip_mtu }
     requires time { IsCapturable at }
     ensures ok { OnOk result
-        (TakesEvent at event word host.old host.new (C.bytes capture.old) (C.bytes capture.new) report.old report.new) }
+        (TakesEvent at event words host.old host.new (C.bytes capture.old) (C.bytes capture.new) report.old report.new) }
     ensures err { OnErr result
-        (LeavesEvent at event word host.old host.new (C.bytes capture.old) (C.bytes capture.new) report.old report.new) }
+        (LeavesEvent at event words host.old host.new (C.bytes capture.old) (C.bytes capture.new) report.old report.new) }
     ensures cause { IfErr result (λ e. (e ≡ RunError.Sink) ⊎ (e ≡ RunError.NoMemory)) }
     ensures sink { IsErrOf result RunError.Sink → IsRisen (C.faults capture.old) (C.faults capture.new) }
     ensures quiet { (IsErrOf result RunError.Sink → ⊥) → C.faults capture.new ≡ C.faults capture.old }
     ensures later { C.faults capture.old ≤ C.faults capture.new }
     ensures ready { IsReady host.new.dhcp host.new.ip_mtu }
 {
-    report.begin(host.alloc, at, kind_of(event), None)?;
-    let sent = host.handle(at, event, word)?;
-    let captured = capture_sent(capture, at, sent.as_slice());
-    report.fill_last(None, sent);
+    report.begin(host.alloc, at, kind_of(event), host.lease)?;
+    let handled = host.handle(at, event, words)?;
+    let captured = capture_sent(capture, at, handled.sent.as_slice());
+    report.fill_last(handled.lease, handled.sent);
     captured?;
     Ok(())
 }
@@ -214,10 +219,10 @@ fn run_events<S: ScriptSource, C: PcapSink>(
             return Ok(());
         };
         let (at, event) = next;
-        let Some(word) = word_at(words, count) else {
+        let Some(event_words) = words_at(words, count) else {
             return Err(RunError::Words);
         };
-        take_event(&mut host, capture, report, at, event, word)?;
+        take_event(&mut host, capture, report, at, event, event_words)?;
         last_micros = micros_of(at);
         offset += script_len(event);
     }

@@ -16,25 +16,25 @@ returns-in_err-global_header-clause-leaves g c =
     (g.C.ByteSink.bytes c.args.capture.now) (g.C.ByteSink.bytes c.global_header.new.self) c.args.report.now c.in_err-global_header.field-0.0
     c.requires.empty c.global_header.ensures.front)
 
-pub returns-in_default-word_at-clause-cause : goal.returns-in_default-word_at-clause-cause
-returns-in_default-word_at-clause-cause g c =
+pub returns-in_default-words_at-clause-cause : goal.returns-in_default-words_at-clause-cause
+returns-in_default-words_at-clause-cause g c =
     let found = rw c.in-Some.is at c.in_ok-next.ensures.event in
     let now = c.loop-count in
     ran_out c.args.config.now c.args.words.now c.args.max_events (g.S.ScriptSource.left c.args.source.now) (g.S.ScriptSource.left now.source)
     (g.S.ScriptSource.left c.next_event.new.source) (g.C.ByteSink.bytes c.args.capture.now) (g.C.ByteSink.bytes now.capture)
     now.count now.last_micros now.offset now.host now.report c.in-Some.next.0 c.in-Some.next.1 now.invariant.progress
-    (below_max now.count c.args.max_events found.0 now.invariant.within) found.1 c.in_default-word_at.ensures.refuses
+    (below_max now.count c.args.max_events found.0 now.invariant.within) found.1 c.in_default-words_at.ensures.refuses
 
 pub returns-in_err-take_event-clause-leaves : goal.returns-in_err-take_event-clause-leaves
 returns-in_err-take_event-clause-leaves g c =
     let refused = err_from_is_err_and c.from_residual-in_err-take_event.result c.from_residual-in_err-take_event.ensures.1 in
     let found = rw c.in-Some.is at c.in_ok-next.ensures.event in
-    let word = c.in-Some-word_at.ensures.found in
+    let drawn = c.in-Some-words_at.ensures.found in
     let now = c.loop-count in
     let interrupted = event_refused c.args.config.now c.args.words.now c.args.max_events (g.S.ScriptSource.left c.args.source.now) (g.S.ScriptSource.left now.source)
     (g.S.ScriptSource.left c.next_event.new.source) (g.C.ByteSink.bytes c.args.capture.now) (g.C.ByteSink.bytes now.capture) (g.C.ByteSink.bytes c.take_event.new.capture)
-    now.count now.last_micros now.offset now.host c.take_event.new.host now.report c.take_event.new.report c.in-Some.next.0 c.in-Some.next.1 c.in-Some-word_at.word
-    now.invariant.progress (below_max now.count c.args.max_events found.0 now.invariant.within) c.new-host.ensures.runs found.1.time word.0 found.1
+    now.count now.last_micros now.offset now.host c.take_event.new.host now.report c.take_event.new.report c.in-Some.next.0 c.in-Some.next.1 c.in-Some-words_at.event_words
+    now.invariant.progress (below_max now.count c.args.max_events found.0 now.invariant.within) c.new-host.ensures.runs found.1.time drawn.0 found.1
     c.in_err-take_event.ensures.err in
     let P : RunError → Type 0 = Leaves c.args.config.now c.args.words.now c.args.max_events (g.S.ScriptSource.left c.args.source.now)
     (g.C.ByteSink.bytes c.args.capture.now) (g.C.ByteSink.bytes c.take_event.new.capture) c.take_event.new.report in
@@ -45,13 +45,13 @@ returns-in_err-take_event-clause-leaves g c =
 pub loop-count-preserved : goal.loop-count-preserved
 loop-count-preserved g c =
     let found = rw c.in-Some.is at c.in_ok-next.ensures.event in
-    let word = c.in-Some-word_at.ensures.found in
+    let drawn = c.in-Some-words_at.ensures.found in
     let now = c.loop-count in
     let below = below_max now.count c.args.max_events found.0 now.invariant.within in
     let progress = goes_on c.args.config.now c.args.words.now c.args.max_events (g.S.ScriptSource.left c.args.source.now) (g.S.ScriptSource.left now.source)
     (g.S.ScriptSource.left c.next_event.new.source) (g.C.ByteSink.bytes c.args.capture.now) (g.C.ByteSink.bytes now.capture) (g.C.ByteSink.bytes c.take_event.new.capture)
-    now.count now.last_micros now.offset c.script_len-offset.result now.host c.take_event.new.host now.report c.take_event.new.report c.in-Some.next.0 c.in-Some.next.1 c.in-Some-word_at.word
-    now.invariant.progress below c.new-host.ensures.runs found.1.time word.0 word.1 (c.script_len-offset.ensures.value c.in-Some.next.0) found.1
+    now.count now.last_micros now.offset c.script_len-offset.result now.host c.take_event.new.host now.report c.take_event.new.report c.in-Some.next.0 c.in-Some.next.1 c.in-Some-words_at.event_words
+    now.invariant.progress below c.new-host.ensures.runs found.1.time drawn.0 drawn.1 (c.script_len-offset.ensures.value c.in-Some.next.0) found.1
     c.in_ok-take_event.ensures.ok in
     record {
       progress = rw c.micros_of-last_micros.ensures progress;
