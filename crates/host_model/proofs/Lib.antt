@@ -2,4 +2,5 @@ pub mod ChronicleLemmas
 pub mod ClassLemmas
 pub mod PartLemmas
 pub mod ScriptLemmas
+pub mod SinceLemmas
 pub mod SomeLemmas

@@ -1,12 +1,13 @@
 -- The events of a run, one after another.
-use Rattle.std.proofs.Common.{◌≡◌, ℕ, ◌+◌, ◌*◌, ◌<◌, ◌≤◌, ℤ, pos, List, [], ◌∷◌, ◌++◌, length, Option, Some, ap, sym, subst, ◌∙◌, refl, arith, length-append, append-nil, zero-add}
+use Rattle.std.proofs.Common.{◌≡◌, ℕ, ◌+◌, ◌*◌, ◌<◌, ◌≤◌, ℤ, List, [], ◌∷◌, ◌++◌, length, Option, ap, sym, subst, ◌∙◌, refl, arith, length-append, append-nil, zero-add}
 use Rattle.std.specs.Io.KnownBytes.{Appends, Consumes}
 use Rattle.std.proofs.KnownBytes.{Consumes-nil, Consumes-trans}
-use Rattle.phy_layers.specs.PcapBytes.{epoch_micros, global_header}
+use Rattle.phy_layers.specs.PcapBytes.{global_header}
 use Rattle.phy_layers.proofs.SinkLemmas.{Appends-then}
 use Rattle.host_model.specs.Script.{Event, SpellsAll, IsNext, AreInOrder, last_time}
 use Rattle.host_model.specs.History.{Entry}
-use Rattle.host_model.specs.Chronicle.{history, first_word}
+use Rattle.host_model.specs.declared.words.EventWords.{EventWords}
+use Rattle.host_model.specs.Chronicle.{history, words_at}
 use Rattle.host_model.proofs.ChronicleLemmas.{history_from-push, length-history_from}
 use Rattle.net_host.specs.declared.host.Host.{Host}
 use Rattle.net_host.specs.declared.report.Row.{Row}
@@ -14,12 +15,12 @@ use Rattle.net_host.specs.declared.script.ScriptEvent.{ScriptEvent}
 use Rattle.net_host.specs.Captured.{event_records, run_capture}
 use Rattle.net_host.specs.Agreement.{AgreesWithHistory}
 use Rattle.net_host.specs.Config.{CanRun}
-use Rattle.net_host.specs.Outside.{Outside, IsQuiet}
+use Rattle.net_host.specs.Outside.{Outside}
 use Rattle.net_host.specs.ReaderState.{ReaderState, at_start}
 use Rattle.net_host.specs.Reading.{event_at, GivesEvent}
 use Rattle.net_host.specs.Rows.{AreRows}
 use Rattle.net_host.specs.Run.{Task, AreAnswered, Taken, RanOut}
-use Rattle.net_host.specs.Taking.{Standing, standing, TakesEvent}
+use Rattle.net_host.specs.Taking.{standing, TakesEvent}
 use Rattle.net_host.proofs.PushLemmas.{in_order_push, last_time_push, spells_push, rows_count, rows_push, capture_push}
 use Rattle.net_host.proofs.PlacingLemmas.{placed}
 
@@ -94,27 +95,27 @@ taken_next task before now after old new host report at event progress gives =
           (Consumes-trans before.left now.left after.left progress.front gives.front progress.took gives.took);
     }
 
--- the first word of the event that was read next
-pub next_word : (task : Task) (events : List Event) (count word : ℕ) → length events ≡ count → word ≡ first_word task.words count
-    → word ≡ first_word task.words (length (history task.settings task.words events))
-next_word task events count word counted is_word =
-    is_word ∙ ap (first_word task.words) (sym counted ∙ sym (length-history_from task.settings task.words [] events ∙ zero-add (length events)))
+-- the words of the event that was read next
+pub next_words : (task : Task) (events : List Event) (count : ℕ) (drawn : EventWords) → length events ≡ count → drawn ≡ words_at task.words count
+    → drawn ≡ words_at task.words (length (history task.settings task.words events))
+next_words task events count drawn counted are_drawn =
+    are_drawn ∙ ap (words_at task.words) (sym counted ∙ sym (length-history_from task.settings task.words [] events ∙ zero-add (length events)))
 
 -- the event that was read next is answered
 pub goes_on : (task : Task) (before now after : Outside) (old new : ReaderState) (host_old host_new : Host) (report_old report_new : List Row)
-    (at : ℤ) (event : ScriptEvent) (word : ℕ)
-    → Progress task before now old host_old report_old → CanRun task.settings → word ≡ first_word task.words old.events
+    (at : ℤ) (event : ScriptEvent) (drawn : EventWords)
+    → Progress task before now old host_old report_old → CanRun task.settings → drawn ≡ words_at task.words old.events
     → 3 * (old.events + 1) ≤ length task.words → GivesEvent task.max old new now.left after.left at event
-    → TakesEvent at event word (standing host_old now.captured report_old) (standing host_new after.captured report_new)
+    → TakesEvent at event drawn (standing host_old now.captured report_old) (standing host_new after.captured report_new)
     → Progress task before after new host_new report_new
 unfolding taken_next
-goes_on task before now after old new host_old host_new report_old report_new at event word progress can is_word enough gives takes =
+goes_on task before now after old new host_old host_new report_old report_new at event drawn progress can are_drawn enough gives takes =
     let e = event_at at event in
     let next = taken_next task before now after old new host_old report_old at event progress gives in
     let answered = progress.answered in
     let counted = rows_count task.settings task.words [] progress.events report_old answered.rows in
-    let is_place = next_word task progress.events old.events word progress.counted is_word in
-    let done = placed task.settings task.words (history task.settings task.words progress.events) at event word
+    let is_place = next_words task progress.events old.events drawn progress.counted are_drawn in
+    let done = placed task.settings task.words (history task.settings task.words progress.events) at event drawn
     (standing host_old now.captured report_old) (standing host_new after.captured report_new) takes.places gives.time can progress.agrees is_place in
     let grown = capture_push progress.events report_old e takes.places.row counted in
     let Q : List ℕ → Type 0 = λ l. Consumes before.left after.left l in

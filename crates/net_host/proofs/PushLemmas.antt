@@ -22,9 +22,13 @@ last_time_push last (first ∷ events) event = last_time_push first.at events ev
 pub spells_push : (events : List Event) (event : Event) (bytes front : List ℕ) → SpellsAll events bytes → Spells event front
     → SpellsAll (events ++ event ∷ []) (bytes ++ front)
 spells_push [] event bytes front none spelled = (front, [], ap (λ l. l ++ front) none ∙ sym (append-nil front), spelled, refl)
-spells_push (first ∷ events) event bytes front spell spelled =
-    (spell.0, spell.1 ++ front, ap (λ l. l ++ front) spell.2 ∙ append_assoc spell.0 spell.1 front, spell.3,
-    spells_push events event spell.1 front spell.4 spelled)
+spells_push (first ∷ events) event bytes front spell spelled = (
+  spell.0,
+  spell.1 ++ front,
+  ap (λ l. l ++ front) spell.2 ∙ append_assoc spell.0 spell.1 front,
+  spell.3,
+  spells_push events event spell.1 front spell.4 spelled,
+)
 
 pub rows_count : (settings : Settings) (words : List ℕ) (before : List Entry) (events : List Event) (rows : List Row)
     → AreRowsFrom settings words before events rows → length rows ≡ length events

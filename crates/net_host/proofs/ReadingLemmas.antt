@@ -1,8 +1,8 @@
 -- Pieces of bytes that a source gives.
 use Rattle.std.proofs.Common.{◌≡◌, ℕ, ◌+◌, ◌^◌, ◌<◌, ◌≤◌, List, [], ◌∷◌, ◌++◌, length, take, drop, ap, sym, ◌∙◌, refl, arith}
-use Rattle.std.proofs.Common.{ℤ, pos, ◌⊎◌, inl, inr, ⊎_elim, leb, false, get_or, subst, Option, Some, None, IfSome, append-nil, length-append}
-use Rattle.std.specs.Int.{to_be_bytes, from_be_bytes, w64}
-use Rattle.std.specs.Io.KnownBytes.{Consumes, IsAtEnd}
+use Rattle.std.proofs.Common.{◌⊎◌, inl, inr, ⊎_elim, leb, false, get_or, subst, Option, Some, None, IfSome, append-nil, length-append}
+use Rattle.std.specs.Int.{from_be_bytes, w64}
+use Rattle.std.specs.Io.KnownBytes.{Consumes}
 use Rattle.std.proofs.KnownBytes.{Consumes-trans}
 use Rattle.std.proofs.lemmas.Nat.{be_bytes_8}
 use Rattle.std.proofs.lemmas.List.{take-append-drop, drop-drop, take_at, length-take, take-append-le}

@@ -1,6 +1,6 @@
 -- What a run leaves that the capture or want of memory stopped.
-use Rattle.std.proofs.Common.{◌≡◌, ℕ, ◌+◌, ◌<◌, ◌≤◌, ◌⊎◌, inl, inr, ⊎_elim, ℤ, pos, List, [], ◌∷◌, ◌++◌, length, Option, None, ap, sym, subst, ◌∙◌, refl, arith, append-nil}
-use Rattle.std.specs.Io.KnownBytes.{Consumes, Keeps}
+use Rattle.std.proofs.Common.{◌≡◌, ℕ, ◌⊎◌, inl, inr, ⊎_elim, ℤ, pos, List, [], ◌∷◌, ◌++◌, Option, ap, sym, subst, ◌∙◌, refl, arith, append-nil}
+use Rattle.std.specs.Io.KnownBytes.{Consumes}
 use Rattle.std.proofs.KnownBytes.{Consumes-nil}
 use Rattle.wire_base.specs.Causes.{AppendsFront}
 use Rattle.phy_layers.specs.PcapBytes.{epoch_micros, global_header}
@@ -8,11 +8,11 @@ use Rattle.phy_layers.specs.declared.byte_sink.SinkError.{SinkError}
 use Rattle.phy_layers.specs.declared.byte_sink.SinkError.TheVariants as sink
 use Rattle.phy_layers.proofs.SinkLemmas.{AppendsFront-then, AppendsFront-longer}
 use Rattle.host_model.specs.Script.{Event}
-use Rattle.host_model.specs.Chronicle.{history, first_word}
+use Rattle.host_model.specs.declared.words.EventWords.{EventWords}
+use Rattle.host_model.specs.Chronicle.{history, words_at}
 use Rattle.net_host.specs.declared.host.Host.{Host}
 use Rattle.net_host.specs.declared.report.Row.{Row}
-use Rattle.net_host.specs.declared.run_script.RunError.{RunError}
-use Rattle.net_host.specs.declared.run_script.RunError.TheVariants.{Sink, NoMemory}
+use Rattle.net_host.specs.declared.run_script.RunError.TheVariants.{NoMemory}
 use Rattle.net_host.specs.declared.script.ScriptEvent.{ScriptEvent}
 use Rattle.net_host.specs.Captured.{event_records, run_capture}
 use Rattle.net_host.specs.Config.{CanRun}
@@ -23,11 +23,11 @@ use Rattle.net_host.specs.Report.{new_row}
 use Rattle.net_host.specs.Rows.{kind_of, AreRows}
 use Rattle.net_host.specs.Run.{Task, Taken, HasRows, LacksRow, Interrupted, Leaves}
 use Rattle.net_host.specs.RunError.{of_sink}
-use Rattle.net_host.specs.Taking.{Standing, standing, LeavesEvent, LeavesRow, LeavesNoRow, LeavesNewRow, LeavesFront}
+use Rattle.net_host.specs.Taking.{standing, LeavesEvent, LeavesRow, LeavesNoRow, LeavesNewRow, LeavesFront}
 use Rattle.net_host.proofs.PushLemmas.{rows_count, rows_push, capture_push, capture_short}
 use Rattle.net_host.proofs.PlacingLemmas.{placed}
 use Rattle.net_host.proofs.FrontLemmas.{kept_front, no_front}
-use Rattle.net_host.proofs.ProgressLemmas.{Progress, taken_next, next_word}
+use Rattle.net_host.proofs.ProgressLemmas.{Progress, taken_next, next_words}
 
 -- before the first event: nothing was taken
 none_taken : (task : Task) (before after : Outside) → after.left ≡ before.left → Taken task before after
@@ -64,13 +64,13 @@ nothing_run task before report empty =
 
 -- the row of the event is placed
 pub row_leaves : (task : Task) (before now after : Outside) (old new : ReaderState) (host_old host_new : Host) (report_old report_new : List Row)
-    (at : ℤ) (event : ScriptEvent) (word : ℕ)
-    → Progress task before now old host_old report_old → CanRun task.settings → word ≡ first_word task.words old.events
+    (at : ℤ) (event : ScriptEvent) (drawn : EventWords)
+    → Progress task before now old host_old report_old → CanRun task.settings → drawn ≡ words_at task.words old.events
     → GivesEvent task.max old new now.left after.left at event
-    → LeavesRow at event word (standing host_old now.captured report_old) (standing host_new after.captured report_new)
+    → LeavesRow at event drawn (standing host_old now.captured report_old) (standing host_new after.captured report_new)
     → Interrupted task before after report_new (HasRows task report_new)
 unfolding taken_next
-row_leaves task before now after old new host_old host_new report_old report_new at event word progress can is_word gives leaves =
+row_leaves task before now after old new host_old host_new report_old report_new at event drawn progress can are_drawn gives leaves =
     let e = event_at at event in
     let answered = progress.answered in
     let counted = rows_count task.settings task.words [] progress.events report_old answered.rows in
@@ -79,7 +79,7 @@ row_leaves task before now after old new host_old host_new report_old report_new
     let U : List Row → Type 0 = λ rows. AreRows task.settings task.words (progress.events ++ e ∷ []) rows in
     ⊎_elim
     (λ (begun : LeavesNewRow at event (standing host_old now.captured report_old) (standing host_new after.captured report_new)).
-    let row = new_row at (kind_of e.arrival) None in
+    let row = new_row at (kind_of e.arrival) host_old.lease in
     let grown = capture_push progress.events report_old e row counted in
     record {
       taken = taken_next task before now after old new host_old report_old at event progress gives;
@@ -89,17 +89,18 @@ row_leaves task before now after old new host_old host_new report_old report_new
         event = e;
         done = report_old;
         event_last = refl;
-        row_last = begun.placed ∙ ap (λ t. report_old ++ new_row t (kind_of e.arrival) None ∷ []) gives.time;
+        row_last = begun.placed ∙ ap (λ t. report_old ++ new_row t (kind_of e.arrival) host_old.lease ∷ []) gives.time
+            ∙ ap (λ l. report_old ++ new_row (pos (epoch_micros at)) (kind_of e.arrival) l ∷ []) progress.agrees.lease;
         rows = answered.rows;
       });
       captured = subst S (sym begun.placed) (subst T (sym grown)
           (AppendsFront-longer before.captured after.captured (run_capture progress.events report_old) (event_records e row)
           (kept_front before.captured now.captured after.captured (run_capture progress.events report_old) answered.captured begun.kept)));
     })
-    (λ (front : LeavesFront at event word (standing host_old now.captured report_old) (standing host_new after.captured report_new)).
+    (λ (front : LeavesFront at event drawn (standing host_old now.captured report_old) (standing host_new after.captured report_new)).
     let grown = capture_push progress.events report_old e front.places.row counted in
-    let is_place = next_word task progress.events old.events word progress.counted is_word in
-    let done = placed task.settings task.words (history task.settings task.words progress.events) at event word
+    let is_place = next_words task progress.events old.events drawn progress.counted are_drawn in
+    let done = placed task.settings task.words (history task.settings task.words progress.events) at event drawn
     (standing host_old now.captured report_old) (standing host_new after.captured report_new) front.places gives.time can progress.agrees is_place in
     record {
       taken = taken_next task before now after old new host_old report_old at event progress gives;
@@ -114,13 +115,13 @@ row_leaves task before now after old new host_old host_new report_old report_new
 
 -- the row of the event is placed or not
 pub event_leaves : (task : Task) (before now after : Outside) (old new : ReaderState) (host_old host_new : Host) (report_old report_new : List Row)
-    (at : ℤ) (event : ScriptEvent) (word : ℕ)
-    → Progress task before now old host_old report_old → CanRun task.settings → word ≡ first_word task.words old.events
+    (at : ℤ) (event : ScriptEvent) (drawn : EventWords)
+    → Progress task before now old host_old report_old → CanRun task.settings → drawn ≡ words_at task.words old.events
     → GivesEvent task.max old new now.left after.left at event
-    → LeavesEvent at event word (standing host_old now.captured report_old) (standing host_new after.captured report_new)
+    → LeavesEvent at event drawn (standing host_old now.captured report_old) (standing host_new after.captured report_new)
     → Leaves task before after report_new NoMemory
 unfolding taken_next
-event_leaves task before now after old new host_old host_new report_old report_new at event word progress can is_word gives leaves =
+event_leaves task before now after old new host_old host_new report_old report_new at event drawn progress can are_drawn gives leaves =
     let e = event_at at event in
     let answered = progress.answered in
     let counted = rows_count task.settings task.words [] progress.events report_old answered.rows in
@@ -135,7 +136,7 @@ event_leaves task before now after old new host_old host_new report_old report_n
       captured = subst S (sym none.same) (subst T (sym (capture_short progress.events report_old e counted))
           (kept_front before.captured now.captured after.captured (run_capture progress.events report_old) answered.captured none.kept));
     })
-    (λ (row : LeavesRow at event word (standing host_old now.captured report_old) (standing host_new after.captured report_new)).
-    let left = row_leaves task before now after old new host_old host_new report_old report_new at event word progress can is_word gives row in
+    (λ (row : LeavesRow at event drawn (standing host_old now.captured report_old) (standing host_new after.captured report_new)).
+    let left = row_leaves task before now after old new host_old host_new report_old report_new at event drawn progress can are_drawn gives row in
     record { taken = left.taken; whole = left.whole; rows = inl left.rows; captured = left.captured })
     leaves

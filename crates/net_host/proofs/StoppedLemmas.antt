@@ -1,5 +1,5 @@
 -- What a run leaves that the reader stopped, and why.
-use Rattle.std.proofs.Common.{◌≡◌, ℕ, ◌+◌, ◌<◌, ◌≤◌, ◌⊎◌, inl, inr, List, ◌++◌, length, Option, Some, None, IfSome, ap, sym, subst, ◌∙◌, refl, arith, append-nil}
+use Rattle.std.proofs.Common.{◌≡◌, ℕ, ◌<◌, ◌≤◌, List, ◌++◌, length, Option, Some, None, IfSome, ap, sym, subst, ◌∙◌, refl, arith, append-nil}
 use Rattle.std.specs.Io.KnownBytes.{Appends, Consumes, IsAtEnd}
 use Rattle.wire_base.specs.Causes.{IsRisen}
 use Rattle.host_model.specs.Script.{Event, SpellsAll, AreInOrder, last_time, BeginsNoEvent}
@@ -123,16 +123,18 @@ pub reading_cause : (task : Task) (before now after : Outside) (reader : ReaderS
     → HasCause task before after (of_read_event error)
 reading_cause task before now after reader host report (read.Script offset) progress said counted =
     let says = said.script offset refl in
-    let P : ℕ → Type 0 = λ o. IfSome before.left (λ bytes. IsBrokenAt task.max bytes o) in
-    (subst P (progress.placed ∙ sym says.0)
-    (broken_at task.max before.left now.left progress.events progress.front reader.last progress.in_order progress.spelled progress.took
-    (omega (arith, progress.counted, says.1)) progress.latest says.2),
-    quiet_after before now after (read.Script offset) counted (λ same. cc))
+    let P : ℕ → Type 0 = λ o. IfSome before.left (λ bytes. IsBrokenAt task.max bytes o) in (
+      subst P (progress.placed ∙ sym says.0)
+          (broken_at task.max before.left now.left progress.events progress.front reader.last progress.in_order progress.spelled progress.took
+          (omega (arith, progress.counted, says.1)) progress.latest says.2),
+      quiet_after before now after (read.Script offset) counted (λ same. cc),
+    )
 reading_cause task before now after reader host report read.Limit progress said counted =
-    let says = said.limit refl in
-    (over_limit task.max before.left now.left progress.events progress.front progress.in_order progress.spelled progress.took
-    (omega (arith, progress.few, progress.counted, says.0)) says.1,
-    quiet_after before now after read.Limit counted (λ same. cc))
+    let says = said.limit refl in (
+      over_limit task.max before.left now.left progress.events progress.front progress.in_order progress.spelled progress.took
+          (omega (arith, progress.few, progress.counted, says.0)) says.1,
+      quiet_after before now after read.Limit counted (λ same. cc),
+    )
 reading_cause task before now after reader host report read.Read progress said counted =
     let P : ℕ → Type 0 = λ count. IsRisen count after.read_faults in
     (subst P counted.quiet.source (counted.risen refl), counted.capture ∙ counted.quiet.capture)

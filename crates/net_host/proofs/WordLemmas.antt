@@ -1,10 +1,10 @@
 -- Words that ran out.
-use Rattle.std.proofs.Common.{◌≡◌, ℕ, ◌+◌, ◌*◌, ◌<◌, ℤ, List, ◌++◌, length, Option, Some, None, IfSome, ◌∙◌, append_assoc}
+use Rattle.std.proofs.Common.{ℕ, List, ◌++◌, Option, Some, None, IfSome, ◌∙◌, append_assoc}
 use Rattle.std.specs.Io.KnownBytes.{Consumes}
 use Rattle.host_model.specs.Script.{Event, SpellsAll, AreInOrder}
 use Rattle.host_model.specs.Classes.{BeginsWith}
 use Rattle.net_host.specs.Outside.{Outside}
-use Rattle.net_host.specs.Run.{Task, Taken, RanOut, HasFewWords}
+use Rattle.net_host.specs.Run.{Task, RanOut, HasFewWords}
 use Rattle.net_host.specs.declared.report.Row.{Row}
 
 read_off : (left_old left_new : Option (List ℕ)) (events : List Event) (front part : List ℕ) → AreInOrder 0 events → SpellsAll events front

@@ -1,5 +1,5 @@
 -- What the fields of a reader of events stand for.
-use Rattle.std.specs.Prelude.{ℕ, ◌*◌, ◌^◌, ◌<◌, ◌≤◌}
+use Rattle.std.specs.Prelude.{◌*◌, ◌≤◌}
 use Rattle.net_host.specs.declared.event_reader.EventReader.TheInside.{Inside}
 use Rattle.net_host.specs.ReaderState.{ReaderState}
 

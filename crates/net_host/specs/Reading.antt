@@ -1,5 +1,5 @@
 -- What a reader of events gives.
-use Rattle.std.specs.Prelude.{◌≡◌, ℕ, ◌<◌, ◌≤◌, ◌⊎◌, List, length, ℤ, pos, Option}
+use Rattle.std.specs.Prelude.{◌≡◌, ℕ, ◌<◌, ◌⊎◌, List, length, ℤ, pos, Option}
 use Rattle.std.specs.Io.KnownBytes.{Consumes, IsAtEnd}
 use Rattle.phy_layers.specs.PcapBytes.{epoch_micros}
 use Rattle.host_model.specs.Script.{Tick, Event, Spells, IsNext}

@@ -1,8 +1,12 @@
 -- What a run leaves, whatever it answers.
-use Rattle.std.specs.Prelude.{◌≡◌, ℕ, ◌*◌, ◌<◌, ◌≤◌, ◌⊎◌, List, [], ◌∷◌, ◌++◌, None, length, pos, IfSome, Result, IsOk}
+use Rattle.std.specs.Prelude.{◌≡◌, ℕ, ◌*◌, ◌<◌, ◌≤◌, ◌⊎◌, List, [], ◌∷◌, ◌++◌, Option, length, pos, IfSome, Result, IsOk}
 use Rattle.std.specs.Result.{IsErrOf}
 use Rattle.std.specs.Io.KnownBytes.{Appends, Consumes, IsAtEnd}
 use Rattle.wire_base.specs.Causes.{AppendsFront, IsRisen}
+use Rattle.net_wire.specs.declared.address.Ipv4Cidr.{Ipv4Cidr}
+use Rattle.host_model.specs.Anchor.{anchor_before}
+use Rattle.host_model.specs.Chronicle.{history}
+use Rattle.host_model.specs.Lease.{leased_under}
 use Rattle.host_model.specs.Script.{Event, SpellsAll, AreInOrder, last_time}
 use Rattle.host_model.specs.Classes.{IsScript, BeginsWith, IsOverLimit, IsBrokenAt}
 use Rattle.host_model.specs.Settings.{Settings}
@@ -73,13 +77,17 @@ pub record RanOut (task : Task) (before after : Outside) (report : List Row) : T
   pub short : length task.words < 3 * length taken.events
   pub answered : AreAnswered task before after report answered_events
 
+-- the address that is held when an event comes behind these
+abbrev pub lease_before : Task → List Event → Option Ipv4Cidr
+lease_before task events = leased_under (anchor_before task.settings (history task.settings task.words events))
+
 -- the last row is that of an event in which nothing was sent yet
 pub record IsUnfinished (task : Task) (report : List Row) (events : List Event) : Type 0 where
   pub earlier : List Event
   pub event : Event
   pub done : List Row
   pub event_last : events ≡ earlier ++ event ∷ []
-  pub row_last : report ≡ done ++ new_row (pos event.at) (kind_of event.arrival) None ∷ []
+  pub row_last : report ≡ done ++ new_row (pos event.at) (kind_of event.arrival) (lease_before task earlier) ∷ []
   pub rows : AreRows task.settings task.words earlier done
 
 -- the last event has no row yet

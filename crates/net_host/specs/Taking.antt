@@ -1,7 +1,9 @@
 -- What one event leaves in the host, the report and the capture.
-use Rattle.std.specs.Prelude.{◌≡◌, ℕ, ◌⊎◌, ℤ, List, [], ◌∷◌, ◌++◌, Option, None}
+use Rattle.std.specs.Prelude.{◌≡◌, ℕ, ◌⊎◌, ℤ, List, [], ◌∷◌, ◌++◌, Option}
 use Rattle.std.specs.Io.KnownBytes.{Appends, Keeps}
 use Rattle.wire_base.specs.Causes.{AppendsFront}
+use Rattle.host_model.specs.declared.words.EventWords.{EventWords}
+use Rattle.net_host.specs.declared.host.Handled.{Handled}
 use Rattle.net_host.specs.declared.host.Host.{Host}
 use Rattle.net_host.specs.declared.report.Row.{Row}
 use Rattle.net_host.specs.declared.script.ScriptEvent.{ScriptEvent}
@@ -20,18 +22,21 @@ pub record Standing : Type 0 where
 abbrev pub standing : Host → Option (List ℕ) → List Row → Standing
 standing host captured report = record { host = host; captured = captured; report = report }
 
+-- what a row says that the host gave
+abbrev pub handled_in : Row → Handled
+handled_in row = record { lease = row.lease; sent = row.sent }
+
 -- the report has one row more: that of the event, with the frames that the host sent
-pub record PlacesRow (at : ℤ) (event : ScriptEvent) (word : ℕ) (old new : Standing) : Type 0 where
+pub record PlacesRow (at : ℤ) (event : ScriptEvent) (words : EventWords) (old new : Standing) : Type 0 where
   pub row : Row
   pub placed : new.report ≡ old.report ++ row ∷ []
   pub time : row.at ≡ at
   pub kind : row.kind ≡ kind_of (event_at at event).arrival
-  pub lease : row.lease ≡ None
-  pub handles : HandlesEvent at event word old.host new.host row.sent
+  pub handles : HandlesEvent at event words old.host new.host (handled_in row)
 
 -- and the capture grew by the records of the event
-pub record TakesEvent (at : ℤ) (event : ScriptEvent) (word : ℕ) (old new : Standing) : Type 0 where
-  pub places : PlacesRow at event word old new
+pub record TakesEvent (at : ℤ) (event : ScriptEvent) (words : EventWords) (old new : Standing) : Type 0 where
+  pub places : PlacesRow at event words old new
   pub captured : Appends old.captured new.captured (event_records (event_at at event) places.row)
 
 -- the row is not placed
@@ -39,20 +44,20 @@ pub record LeavesNoRow (old new : Standing) : Type 0 where
   pub same : new.report ≡ old.report
   pub kept : Keeps old.captured new.captured
 
--- the row is placed, and nothing was sent yet
+-- the row is placed with the address that the host held, and nothing was sent yet
 pub record LeavesNewRow (at : ℤ) (event : ScriptEvent) (old new : Standing) : Type 0 where
-  pub placed : new.report ≡ old.report ++ new_row at (kind_of (event_at at event).arrival) None ∷ []
+  pub placed : new.report ≡ old.report ++ new_row at (kind_of (event_at at event).arrival) old.host.lease ∷ []
   pub kept : Keeps old.captured new.captured
 
 -- the row is that of the event, and the capture grew by a front of its records
-pub record LeavesFront (at : ℤ) (event : ScriptEvent) (word : ℕ) (old new : Standing) : Type 0 where
-  pub places : PlacesRow at event word old new
+pub record LeavesFront (at : ℤ) (event : ScriptEvent) (words : EventWords) (old new : Standing) : Type 0 where
+  pub places : PlacesRow at event words old new
   pub captured : AppendsFront old.captured new.captured (event_records (event_at at event) places.row)
 
 -- what an event leaves that was not taken in to its end, once its row is placed
-abbrev pub LeavesRow : ℤ → ScriptEvent → ℕ → Standing → Standing → Type 0
-LeavesRow at event word old new = LeavesNewRow at event old new ⊎ LeavesFront at event word old new
+abbrev pub LeavesRow : ℤ → ScriptEvent → EventWords → Standing → Standing → Type 0
+LeavesRow at event words old new = LeavesNewRow at event old new ⊎ LeavesFront at event words old new
 
 -- and before
-abbrev pub LeavesEvent : ℤ → ScriptEvent → ℕ → Standing → Standing → Type 0
-LeavesEvent at event word old new = LeavesNoRow old new ⊎ LeavesRow at event word old new
+abbrev pub LeavesEvent : ℤ → ScriptEvent → EventWords → Standing → Standing → Type 0
+LeavesEvent at event words old new = LeavesNoRow old new ⊎ LeavesRow at event words old new

@@ -4,7 +4,7 @@ ghost use Rattle.std.specs.Result.{IsErrOf};
 ghost use Rattle.wire_base.specs.Causes.{IsRisen};
 ghost use Rattle.phy_layers.specs.Sink.{Took};
 ghost use Rattle.phy_layers.specs.PcapBytes.{epoch_micros, IsCapturable};
-ghost use Rattle.host_model.specs.Chronicle.{first_word};
+ghost use Rattle.host_model.specs.Chronicle.{words_at};
 ghost use Rattle.net_host.specs.Captured.{sent_records};
 ghost use Rattle.net_host.specs.Report.{AreCapturable};
 ghost use Rattle.net_host.specs.Polling.{IsReady};
@@ -18,6 +18,7 @@ use crate::host::Host;
 use crate::{
     EventReader, HostConfig, Kind, ReadEventError, Report, ScriptEvent, ScriptSource, Sent,
 };
+use host_model::EventWords;
 use net_wire::{Instant, NoMemory};
 use phy_layers::{PcapLinkType, PcapSink, SinkError};
 use std::alloc::Global;
@@ -79,16 +80,20 @@ impl From<NoMemory> for RunError {
     }
 }
 
-/// The first of the words of the event at a place, where all three are left.
-fn word_at(words: &[u32], place: u32) -> Option<u32>
-    ensures found { IfSome result (λ word. (word ≡ first_word words.now place) × (3 * (place + 1) ≤ length words.now)) }
+/// The words of the event at a place, where all three are left.
+fn words_at(words: &[u32], place: u32) -> Option<EventWords>
+    ensures found { IfSome result (λ drawn. (drawn ≡ words_at words.now place) × (3 * (place + 1) ≤ length words.now)) }
     ensures refuses { IfNone result (length words.now < 3 * (place + 1)) }
 {
     let first = place as usize * 3;
     if words.len() < first + 3 {
         None
     } else {
-        Some(words[first])
+        Some(EventWords {
+            first: words[first],
+            second: words[first + 1],
+            third: words[first + 2],
+        })
     }
 }
 
@@ -113,33 +118,33 @@ fn capture_sent<C: PcapSink>(capture: &mut C, at: Instant, sent: &[Sent]) -> Res
     Ok(())
 }
 
-/// Takes an event in: places its row, sends what it brings about, and captures that. `word` is the first of its words.
+/// Takes an event in: places its row, sends what it brings about, and captures that.
 fn take_event<C: PcapSink>(
     host: &mut Host<'_>,
     capture: &mut C,
     report: &mut Report,
     at: Instant,
     event: ScriptEvent,
-    word: u32,
+    words: EventWords,
 ) -> Result<(), RunError>
     requires ready { IsReady host.old.dhcp host.old.ip_mtu }
     requires time { IsCapturable at }
-    ensures ok { OnOk result (TakesEvent at event word
+    ensures ok { OnOk result (TakesEvent at event words
         (standing host.old (C.bytes capture.old) report.old) (standing host.new (C.bytes capture.new) report.new)) }
     ensures cause { IfErr result (λ e. (e ≡ RunError.Sink) ⊎ (e ≡ RunError.NoMemory)) }
-    ensures sink { IsErrOf result RunError.Sink → LeavesRow at event word
+    ensures sink { IsErrOf result RunError.Sink → LeavesRow at event words
         (standing host.old (C.bytes capture.old) report.old) (standing host.new (C.bytes capture.new) report.new) }
-    ensures memory { IsErrOf result RunError.NoMemory → LeavesEvent at event word
+    ensures memory { IsErrOf result RunError.NoMemory → LeavesEvent at event words
         (standing host.old (C.bytes capture.old) report.old) (standing host.new (C.bytes capture.new) report.new) }
     ensures risen { IsErrOf result RunError.Sink → IsRisen (C.faults capture.old) (C.faults capture.new) }
     ensures quiet { (IsErrOf result RunError.Sink → ⊥) → C.faults capture.new ≡ C.faults capture.old }
     ensures later { C.faults capture.old ≤ C.faults capture.new }
     ensures ready { IsReady host.new.dhcp host.new.ip_mtu }
 {
-    report.begin(host.alloc, at, kind_of(event), None)?;
-    let sent = host.handle(at, event, word)?;
-    let captured = capture_sent(capture, at, sent.as_slice());
-    report.fill_last(None, sent);
+    report.begin(host.alloc, at, kind_of(event), host.lease)?;
+    let handled = host.handle(at, event, words)?;
+    let captured = capture_sent(capture, at, handled.sent.as_slice());
+    report.fill_last(handled.lease, handled.sent);
     captured?;
     Ok(())
 }
@@ -184,10 +189,10 @@ pub fn run<S: ScriptSource, C: PcapSink>(
             return Ok(());
         };
         let (at, event) = next;
-        let Some(word) = word_at(words, count) else {
+        let Some(drawn) = words_at(words, count) else {
             return Err(RunError::Words);
         };
-        take_event(&mut host, capture, report, at, event, word)?;
+        take_event(&mut host, capture, report, at, event, drawn)?;
     }
     unreachable!()
 }

@@ -9,27 +9,27 @@ use Rattle.net_host.proofs.run_script.take_event.Goals as goal
 
 pub returns-in_err-captured-clause-sink : goal.returns-in_err-captured-clause-sink
 returns-in_err-captured-clause-sink g c = λ is.
-    let places = place_row c.args.at c.args.event c.args.word c.args.host.now c.handle.new.self (g.C.ByteSink.bytes c.args.capture.now)
+    let places = place_row c.args.at c.args.event c.args.words c.args.host.now c.handle.new.self (g.C.ByteSink.bytes c.args.capture.now)
     (g.C.ByteSink.bytes c.capture_sent-captured.new.capture) c.args.report.now c.begin.new.self c.fill_last.new.self
-    c.kind_of.result c.in_ok-sent.sent c.in_ok-begin.ensures.ok c.fill_last.ensures (c.kind_of.ensures c.args.at) c.in_ok-sent.ensures.value in
+    c.kind_of.result c.args.host.now.lease c.in_ok-handled.handled c.in_ok-begin.ensures.ok c.fill_last.ensures (c.kind_of.ensures c.args.at) c.in_ok-handled.ensures.value in
     let records = ap (sent_records (epoch_micros c.args.at)) c.as_slice.ensures ∙ sym (records_of_tick c.args.at c.args.event places.row) in
     let P : List ℕ → Type 0 = λ l. AppendsFront (g.C.ByteSink.bytes c.args.capture.now) (g.C.ByteSink.bytes c.capture_sent-captured.new.capture) l in
     inr (record { places = places; captured = subst P records c.capture_sent-captured.ensures.front })
 
 pub returns-in_err-captured-clause-memory : goal.returns-in_err-captured-clause-memory
 returns-in_err-captured-clause-memory g c = λ is.
-    let places = place_row c.args.at c.args.event c.args.word c.args.host.now c.handle.new.self (g.C.ByteSink.bytes c.args.capture.now)
+    let places = place_row c.args.at c.args.event c.args.words c.args.host.now c.handle.new.self (g.C.ByteSink.bytes c.args.capture.now)
     (g.C.ByteSink.bytes c.capture_sent-captured.new.capture) c.args.report.now c.begin.new.self c.fill_last.new.self
-    c.kind_of.result c.in_ok-sent.sent c.in_ok-begin.ensures.ok c.fill_last.ensures (c.kind_of.ensures c.args.at) c.in_ok-sent.ensures.value in
+    c.kind_of.result c.args.host.now.lease c.in_ok-handled.handled c.in_ok-begin.ensures.ok c.fill_last.ensures (c.kind_of.ensures c.args.at) c.in_ok-handled.ensures.value in
     let records = ap (sent_records (epoch_micros c.args.at)) c.as_slice.ensures ∙ sym (records_of_tick c.args.at c.args.event places.row) in
     let P : List ℕ → Type 0 = λ l. AppendsFront (g.C.ByteSink.bytes c.args.capture.now) (g.C.ByteSink.bytes c.capture_sent-captured.new.capture) l in
     inr (inr (record { places = places; captured = subst P records c.capture_sent-captured.ensures.front }))
 
 pub returns-clause-ok : goal.returns-clause-ok
 returns-clause-ok g c =
-    let places = place_row c.args.at c.args.event c.args.word c.args.host.now c.handle.new.self (g.C.ByteSink.bytes c.args.capture.now)
+    let places = place_row c.args.at c.args.event c.args.words c.args.host.now c.handle.new.self (g.C.ByteSink.bytes c.args.capture.now)
     (g.C.ByteSink.bytes c.capture_sent-captured.new.capture) c.args.report.now c.begin.new.self c.fill_last.new.self
-    c.kind_of.result c.in_ok-sent.sent c.in_ok-begin.ensures.ok c.fill_last.ensures (c.kind_of.ensures c.args.at) c.in_ok-sent.ensures.value in
+    c.kind_of.result c.args.host.now.lease c.in_ok-handled.handled c.in_ok-begin.ensures.ok c.fill_last.ensures (c.kind_of.ensures c.args.at) c.in_ok-handled.ensures.value in
     let records = ap (sent_records (epoch_micros c.args.at)) c.as_slice.ensures ∙ sym (records_of_tick c.args.at c.args.event places.row) in
     let P : List ℕ → Type 0 = λ l. Appends (g.C.ByteSink.bytes c.args.capture.now) (g.C.ByteSink.bytes c.capture_sent-captured.new.capture) l in
     let whole = rw c.in_ok-captured.was at c.capture_sent-captured.ensures.whole in
