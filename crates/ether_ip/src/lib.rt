@@ -4,6 +4,7 @@
 #![tactic(auto)]
 
 pub mod err;
+pub mod examples;
 pub mod ip;
 pub mod laws;
 pub mod net_headers;
