@@ -8,7 +8,7 @@ use Rattle.ether_link.specs.Places.{header_at}
 use Rattle.ether_link.specs.declared.layout.Place.{Place}
 use Rattle.ether_link.specs.declared.layout.Stop.{Stop}
 use Rattle.ether_link.specs.declared.layout.PartKind.{PartKind}
-use Rattle.ether_link.specs.declared.layout.PartKind.TheVariants.{HopByHop, Route, Fragment, DestinationOptions, Ipv4Auth, Ipv6Auth}
+use Rattle.ether_link.specs.declared.layout.PartKind.TheVariants.{HopByHop, LateHopByHop, Route, Fragment, DestinationOptions, Ipv4Auth, Ipv6Auth}
 use Rattle.ether_link.proofs.FormLemmas.{no_early, has_header}
 use Rattle.ether_link.proofs.LayoutLemmas.{some}
 use Rattle.ether_link.proofs.RangeLemmas.{header_is}
@@ -78,6 +78,7 @@ one_more_free packet held places place frees open_place = record {
 pub extension_accepted : {E : Type 0} (errors : ExtensionErrors E) (kind : PartKind) (bytes : List ℕ)
     → refusal (extension_form_of errors kind) bytes ≡ None → is_extension kind ≡ true
 extension_accepted errors HopByHop bytes accepted = refl
+extension_accepted errors LateHopByHop bytes accepted = refl
 extension_accepted errors Route bytes accepted = refl
 extension_accepted errors Fragment bytes accepted = refl
 extension_accepted errors DestinationOptions bytes accepted = refl

@@ -50,6 +50,7 @@ with_extension (Authentication header) held = record held { auth = Some header }
 -- the kinds of extension headers
 abbrev pub is_extension : PartKind → Bool
 is_extension kind.HopByHop = true
+is_extension kind.LateHopByHop = true
 is_extension kind.Route = true
 is_extension kind.DestinationOptions = true
 is_extension kind.Fragment = true

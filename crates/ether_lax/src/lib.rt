@@ -1,13 +1,24 @@
-// A library with one function.
+//! Dissection of packets that may be cut or damaged: every header that is there, and what stopped the
+//! dissection.
 #![tactic(auto)]
 
-ghost use Rattle.std.specs.Prelude.{◌≡◌};
-ghost use Rattle.ether_lax.specs.Echo.{echo_of};
+pub mod ether_payload;
+mod found;
+pub mod ip;
+pub mod ipv4;
+pub mod ipv6;
+pub mod link_ext;
+pub mod macsec;
+pub mod net;
+mod read_part;
+pub mod step;
+mod walk;
 
-// The `ensures` clause is the contract: what `echo` returns is `echo_of` of its argument, a definition
-// in `specs/Echo.antt`, which a caller's clause can cite too.
-pub fn echo(x: usize) -> usize
-    ensures { result ≡ echo_of x }
-{
-    x
-}
+pub use ether_payload::LaxEtherPayloadSlice;
+pub use ip::LaxIpSlice;
+pub use ipv4::LaxIpv4Slice;
+pub use ipv6::LaxIpv6Slice;
+pub use link_ext::LaxLinkExtSlice;
+pub use macsec::{LaxMacsecPayloadSlice, LaxMacsecSlice};
+pub use net::LaxNetSlice;
+pub use step::{NextLayer, Part, next_layer};
