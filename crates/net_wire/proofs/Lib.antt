@@ -1,2 +1,4 @@
 pub mod DatagramLemmas
 pub mod SentFrameLemmas
+pub mod DnsNameLemmas
+pub mod DnsQueryLemmas
