@@ -1,5 +1,5 @@
 -- What the status says of how a command ended.
-use Rattle.std.proofs.Common.{◌≡◌, ℕ, ◌*◌, List, [], ◌++◌, length, append-nil, Option, Some, None, Result, Ok, Err, IfSome, inl, inr, refl, sym, arith}
+use Rattle.std.proofs.Common.{◌≡◌, ℕ, ◌*◌, List, length, Option, Some, None, Result, Ok, Err, IfSome, inl, inr, refl, arith}
 use Rattle.wire_base.specs.Causes.{IsRisen}
 use Rattle.host_model.specs.Script.{Event}
 use Rattle.host_model.specs.Classes.{IsScript, IsBrokenAt, IsOverLimit}

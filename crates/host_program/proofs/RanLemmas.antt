@@ -1,5 +1,5 @@
 -- The run that a command names.
-use Rattle.std.proofs.Common.{◌≡◌, ℕ, ◌*◌, List, length, ap, subst, sym, ◌∙◌, arith}
+use Rattle.std.proofs.Common.{◌≡◌, ℕ, ◌*◌, List, ap, subst, ◌∙◌, arith}
 use Rattle.host_model.specs.Settings.{Settings}
 use Rattle.net_host.specs.declared.report.Row.{Row}
 use Rattle.net_host.specs.declared.run_script.RunError.{RunError}
@@ -7,7 +7,7 @@ use Rattle.net_host.specs.Outside.{Outside}
 use Rattle.net_host.specs.Run.{Task, task_of, Leaves, HasCause}
 use Rattle.host_program.specs.declared.command.RunCommand.{RunCommand}
 use Rattle.host_program.specs.Command.{settings_named}
-use Rattle.host_program.specs.Generator.{first_words, event_words}
+use Rattle.host_program.specs.Generator.{first_words}
 use Rattle.host_program.specs.HostMain.{task_named, Ran}
 
 -- three words for each event

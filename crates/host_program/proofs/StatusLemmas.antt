@@ -9,7 +9,7 @@ use Rattle.net_host.specs.Outside.{Outside, IsQuiet}
 use Rattle.host_program.specs.declared.command.Command.{Command}
 use Rattle.host_program.specs.declared.command.Command.TheVariants.{Run}
 use Rattle.host_program.specs.declared.ending.Ending.{Ending}
-use Rattle.host_program.specs.declared.ending.Ending.TheVariants.{Done, Refused, Script, Limit, Read, Capture, NoMemory}
+use Rattle.host_program.specs.declared.ending.Ending.TheVariants.{Done, Script, Limit, Read, Capture}
 use Rattle.host_program.specs.Ending.{status_after}
 use Rattle.host_program.specs.HostMain.{ForNamed, IsDone, HasBrokenScript, HasLongScript, EndedAs, HasEnded}
 use Rattle.host_program.proofs.EndingLemmas.{Answered}

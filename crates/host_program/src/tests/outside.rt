@@ -66,7 +66,14 @@ fn run_over<S: ScriptSource, C: PcapSink>(
     }
     let mut out = SureSink::new(alloc);
     let mut report = Report::new(alloc);
-    let status = host_main(alloc, args.as_slice(), source, capture, &mut out, &mut report);
+    let status = host_main(
+        alloc,
+        args.as_slice(),
+        source,
+        capture,
+        &mut out,
+        &mut report,
+    );
     Ok((status, out.bytes().ends_with(line), report.rows().len()))
 }
 
