@@ -122,3 +122,15 @@ module _ (frame : List ℕ) (place : Place) (start end : ℕ) (parts : Parts) (b
       let last = inside.1 in
       rw is (omega arith, omega arith, between.window, omega arith)
   inside_with (Transport part) ip is inside = rw is (inside_later (length frame) start place.body ip (omega arith) inside)
+
+-- the last part is the one that was put
+pub last_with : (frame : List ℕ) (place : Place) (part : Part) (parts : Parts) → (with_part frame place part parts).last ≡ Some place
+last_with frame place (Ethernet2 bytes) parts = refl
+last_with frame place (LinuxSll bytes) parts = refl
+last_with frame place (Vlan bytes) parts = refl
+last_with frame place (Macsec bytes) parts = refl
+last_with frame place (Arp bytes) parts = refl
+last_with frame place (Ipv4 header) parts = refl
+last_with frame place (Ipv6 header) parts = refl
+last_with frame place (Extension header) parts = refl
+last_with frame place (Transport part) parts = refl

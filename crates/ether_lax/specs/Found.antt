@@ -11,7 +11,7 @@ use Rattle.ether_ip.specs.declared.ip.ext_places.ExtensionPlaces.{ExtensionPlace
 use Rattle.ether_ip.specs.declared.ip.exts.Ipv6ExtensionSlice.{Ipv6ExtensionSlice}
 use Rattle.ether_ip.specs.declared.transport.TransportSlice.{TransportSlice}
 use Rattle.ether_lax.specs.Parts.{part_at, window_at, source_at, is_incomplete}
-use Rattle.ether_lax.specs.LinkExts.{LinkExtPart, TagPart, ext_in, macsec_part, source_behind}
+use Rattle.ether_lax.specs.LinkExts.{LinkExtPart, TagPart, ext_in, macsec_part, source_behind, is_cut}
 use Rattle.ether_lax.specs.declared.step.Part.{Part}
 use Rattle.ether_lax.specs.declared.step.Part.TheVariants.{Ethernet2, LinuxSll, Vlan, Macsec, Arp, Ipv4, Ipv6, Extension, Transport}
 use Rattle.ether_lax.specs.declared.found.Found.{Found}
@@ -19,11 +19,12 @@ use Rattle.ether_lax.specs.declared.found.FoundIp.{FoundIp}
 use Rattle.ether_lax.specs.declared.found.IpHeader.{IpHeader}
 use Rattle.ether_lax.specs.declared.found.IpHeader.TheVariants as version
 
--- the link extensions and the source of the windows behind them; an ARP packet; an IP header and how far its extension headers reach, and
+-- the link extensions, the source of the windows behind them, and whether the last one lacks bytes; an ARP packet; an IP header and how far its extension headers reach, and
 -- these in their places; the part of the transport layer; and the last part of all
 pub record Parts : Type 0 where
   pub exts : List LinkExtPart
   pub link_source : LenSource
+  pub link_incomplete : Bool
   pub arp : Option (List ℕ)
   pub ip : Option FoundIp
   pub held : ExtensionPlaces
@@ -35,6 +36,7 @@ abbrev pub found_in : Found → Parts
 found_in found = record {
   exts = map ext_in found.link_exts.items;
   link_source = found.link_source;
+  link_incomplete = found.link_incomplete;
   arp = found.arp;
   ip = found.ip;
   held = found.held;
@@ -43,11 +45,24 @@ found_in found = record {
 }
 
 abbrev pub no_parts : Parts
-no_parts = record { exts = []; link_source = Slice; arp = None; ip = None; held = no_extensions; transport = None; last = None }
+no_parts = record {
+  exts = [];
+  link_source = Slice;
+  link_incomplete = false;
+  arp = None;
+  ip = None;
+  held = no_extensions;
+  transport = None;
+  last = None;
+}
 
 -- one link extension more
 abbrev pub with_ext : LinkExtPart → Parts → Parts
-with_ext ext parts = record parts { exts = parts.exts ++ ext ∷ []; link_source = source_behind parts.link_source ext }
+with_ext ext parts = record parts {
+  exts = parts.exts ++ ext ∷ [];
+  link_source = source_behind parts.link_source ext;
+  link_incomplete = is_cut ext;
+}
 
 -- an IP header at a place: what it says is behind it, and its window
 abbrev pub ip_found : List ℕ → Place → IpHeader → ℕ → Bool → FoundIp

@@ -92,3 +92,9 @@ abbrev pub header_of_ext : LinkExtPart → LinkExtHeader
 header_of_ext (TagPart bytes) = VlanHeader (vlan_header bytes)
 header_of_ext (SecuredPart header payload) = MacsecHeader (macsec_header header)
 header_of_ext (ModifiedPart header incomplete bytes) = MacsecHeader (macsec_header header)
+
+-- the payload of a link extension has more bytes than are there
+abbrev pub is_cut : LinkExtPart → Bool
+is_cut (TagPart bytes) = false
+is_cut (SecuredPart header payload) = payload.incomplete
+is_cut (ModifiedPart header incomplete bytes) = incomplete

@@ -1,5 +1,5 @@
 -- What a reader needs to know that goes from one part of a packet to the next.
-use Rattle.std.specs.Prelude.{◌≡◌, ℕ, ◌+◌, ◌<◌, ◌≤◌, Bool, List, slice_range, Option, Some, None}
+use Rattle.std.specs.Prelude.{◌≡◌, ℕ, ◌+◌, ◌<◌, ◌≤◌, Bool, false, List, slice_range, Option, Some, None}
 use Rattle.ether_link.specs.Form.{IsHeader}
 use Rattle.ether_link.specs.Layout.{header, place_of}
 use Rattle.ether_link.specs.declared.len_source.LenSource.{LenSource}
@@ -52,3 +52,7 @@ pub record IsStep (frame : List ℕ) (turn : Turn) (start end : ℕ) (place : Pl
   pub incomplete_is : incomplete ≡ is_incomplete frame place
   pub next_is : next ≡ packet_grammar.next turn (header packet_grammar turn.kind (slice_range frame start end))
   pub between : IsBetween start end place
+
+-- the turn of the part that a frame begins with
+abbrev pub begins_with : PartKind → Option Turn
+begins_with kind = Some (record { kind = kind; link_exts = 0; fragmented = false })

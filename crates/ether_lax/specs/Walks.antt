@@ -51,3 +51,8 @@ pub record IsOf (frame : List ℕ) (place : Place) (source : LenSource) (incompl
 abbrev pub IsInside : ℕ → ℕ → Option FoundIp → Type 0
 IsInside len at None = Unit {0}
 IsInside len at (Some ip) = (ip.first.body ≤ ip.last.body) × (ip.last.body ≤ at) × (ip.last.body ≤ ip.last.end) × (ip.last.end ≤ len)
+
+-- the last part lies in a frame
+abbrev pub LiesIn : ℕ → Option Place → Type 0
+LiesIn len None = Unit {0}
+LiesIn len (Some place) = (place.start ≤ len) × (place.body ≤ len) × (place.end ≤ len)

@@ -15,6 +15,8 @@ pub(crate) struct Found<'a> {
     pub(crate) link_exts: ArrayVec<LaxLinkExtSlice<'a>, 3>,
     /// The source of the windows behind the link extensions.
     pub(crate) link_source: LenSource,
+    /// The last link extension has more bytes than are there.
+    pub(crate) link_incomplete: bool,
     pub(crate) arp: Option<ArpPacketSlice<'a>>,
     pub(crate) ip: Option<FoundIp<'a>>,
     pub(crate) held: ExtensionPlaces<'a>,
@@ -56,6 +58,7 @@ impl<'a> Found<'a> {
         Found {
             link_exts: ArrayVec::new(),
             link_source: LenSource::Slice,
+            link_incomplete: false,
             arp: None,
             ip: None,
             held: ExtensionPlaces::new(),
@@ -135,8 +138,12 @@ impl<'a> Found<'a> {
         requires { length (found_in self.old).exts < 3 }
         ensures { found_in self.new ≡ with_ext (ext_in ext.entry) (found_in self.old) }
     {
-        if let LaxLinkExtSlice::Macsec(macsec) = &ext {
-            self.link_source = macsec.source_behind(self.link_source);
+        match &ext {
+            LaxLinkExtSlice::Vlan(_) => self.link_incomplete = false,
+            LaxLinkExtSlice::Macsec(macsec) => {
+                self.link_source = macsec.source_behind(self.link_source);
+                self.link_incomplete = macsec.is_cut();
+            }
         }
         self.link_exts.push(ext);
     }

@@ -10,8 +10,12 @@ pub mod ipv6;
 pub mod link_ext;
 pub mod macsec;
 pub mod net;
+mod nets;
 mod read_part;
+mod sliced;
+pub mod sliced_packet;
 pub mod step;
+mod stops;
 mod walk;
 
 pub use ether_payload::LaxEtherPayloadSlice;
@@ -21,4 +25,5 @@ pub use ipv6::LaxIpv6Slice;
 pub use link_ext::LaxLinkExtSlice;
 pub use macsec::{LaxMacsecPayloadSlice, LaxMacsecSlice};
 pub use net::LaxNetSlice;
+pub use sliced_packet::LaxSlicedPacket;
 pub use step::{NextLayer, Part, next_layer};

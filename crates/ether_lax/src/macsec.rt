@@ -27,7 +27,7 @@ pub enum LaxMacsecPayloadSlice<'a> {
 }
 
 impl<'a> LaxMacsecSlice<'a> {
-    ghost use Rattle.ether_lax.specs.LinkExts.{macsec_in, macsec_part, source_behind, ether_in, payload_of_ext, type_of_ext};
+    ghost use Rattle.ether_lax.specs.LinkExts.{macsec_in, macsec_part, source_behind, is_cut, ether_in, payload_of_ext, type_of_ext};
 
     /// A tag with the bytes behind it, of which some may be missing, as its short length says.
     pub(crate) fn of_parts(
@@ -63,6 +63,16 @@ impl<'a> LaxMacsecSlice<'a> {
                 source => source,
             },
             LaxMacsecPayloadSlice::Modified { .. } => before,
+        }
+    }
+
+    /// The payload has more bytes than are there.
+    pub(crate) fn is_cut(&self) -> bool
+        ensures { result ≡ is_cut (macsec_in self.now) }
+    {
+        match &self.payload {
+            LaxMacsecPayloadSlice::Unmodified(payload) => payload.incomplete,
+            LaxMacsecPayloadSlice::Modified { incomplete, .. } => *incomplete,
         }
     }
 

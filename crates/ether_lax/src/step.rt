@@ -6,7 +6,7 @@ ghost use Rattle.ether_link.specs.Places.{is_cut_off};
 ghost use Rattle.ether_link.specs.LinkGrammar.{by_ether_type};
 ghost use Rattle.ether_ip.specs.ExtensionGrammar.{fragmented_behind};
 ghost use Rattle.ether_ip.specs.PacketGrammar.{packet_grammar, transport_kind, part_turn};
-ghost use Rattle.ether_lax.specs.Steps.{IsHeaderOf, MayStandBehind, IsStep};
+ghost use Rattle.ether_lax.specs.Steps.{IsHeaderOf, MayStandBehind, IsStep, begins_with};
 ghost use Rattle.ether_lax.specs.Parts.{source_by};
 
 use crate::read_part::read_part;
@@ -266,4 +266,15 @@ fn is_fragmented_behind(kind: PartKind, before: bool, header: &[u8]) -> bool
         PartKind::Fragment => before || read_flag(header, 3, 0) || read_be16(header, 2) / 8 != 0,
         _ => before,
     }
+}
+
+/// The turn of the part that a frame begins with.
+pub(crate) fn first(kind: PartKind) -> Option<Turn>
+    ensures { result ≡ begins_with kind }
+{
+    Some(Turn {
+        kind,
+        link_exts: 0,
+        fragmented: false,
+    })
 }

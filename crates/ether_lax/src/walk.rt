@@ -2,7 +2,7 @@
 ghost use Rattle.std.specs.Prelude.{◌≡◌, length};
 ghost use Rattle.ether_lax.specs.Found.{found_in};
 ghost use Rattle.ether_lax.specs.Steps.{TellsCount};
-ghost use Rattle.ether_lax.specs.Walks.{IsWalked, IsInside};
+ghost use Rattle.ether_lax.specs.Walks.{IsWalked, IsInside, LiesIn};
 
 use crate::found::Found;
 use crate::step::next_layer;
@@ -22,6 +22,7 @@ pub(crate) fn walk(frame: &[u8], first: Option<Turn>, in_places: bool) -> Walked
     requires { TellsCount 0 first }
     ensures value { IsWalked in_places frame.now first (found_in result.found) result.stop }
     ensures inside { IsInside (length frame.now) (length frame.now) result.found.ip }
+    ensures last { LiesIn (length frame.now) result.found.last }
 {
     let mut found = Found::new();
     let (mut turn, mut start, mut end) = (first, 0, frame.len());

@@ -1,9 +1,10 @@
 use Rattle.std.proofs.Common.{◌≡◌, ◌≤◌, length, Option, refl, sym, ap, ◌∙◌, subst, arith}
 use Rattle.ether_lax.specs.Found.{Parts, found_in, with_part}
 use Rattle.ether_lax.specs.Parts.{part_at}
-use Rattle.ether_lax.specs.Walks.{IsInside}
+use Rattle.ether_lax.specs.Walks.{IsInside, LiesIn}
+use Rattle.ether_link.specs.declared.layout.Place.{Place}
 use Rattle.ether_lax.specs.declared.found.FoundIp.{FoundIp}
-use Rattle.ether_lax.proofs.FoundLemmas.{inside_with}
+use Rattle.ether_lax.proofs.FoundLemmas.{inside_with, last_with}
 use Rattle.ether_lax.proofs.WalkLemmas.{IsWalking, walk_taken, walk_stopped, walk_ended, walk_on}
 use Rattle.ether_lax.proofs.walk.walk.Goals as goal
 
@@ -41,6 +42,9 @@ loop-turn-preserved c =
           (sym put) on;
       order = step.between.window;
       within = omega arith;
+      last = subst (λ (found : Option Place). LiesIn (length c.args.frame.now) found)
+          (sym (ap (λ (parts : Parts). parts.last) put ∙ last_with c.args.frame.now c.in-Ok.layer.place (part_at c.args.frame.now c.in-Ok.layer.place) (found_in c.loop-turn.found)))
+          (omega arith, omega arith, omega arith);
       inside = subst (λ (found : Option FoundIp). IsInside (length c.args.frame.now) c.in-Ok.layer.place.body found) (sym ip) inside;
     }
 

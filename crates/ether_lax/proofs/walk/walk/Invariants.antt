@@ -1,6 +1,6 @@
 use Rattle.std.proofs.Common.{◌-◌, ◌≤◌, length}
 use Rattle.ether_lax.specs.Found.{found_in}
-use Rattle.ether_lax.specs.Walks.{IsInside}
+use Rattle.ether_lax.specs.Walks.{IsInside, LiesIn}
 use Rattle.ether_lax.proofs.WalkLemmas.{IsWalking}
 use Rattle.ether_lax.proofs.walk.walk.Given as goal
 
@@ -10,6 +10,7 @@ invariant-loop-turn l = record {
   order : l.start ≤ l.end;
   within : l.end ≤ length l.frame;
   inside : IsInside (length l.frame) l.start l.found.ip;
+  last : LiesIn (length l.frame) l.found.last;
 }
 
 abbrev pub decreases-loop-turn : goal.decreases-loop-turn
