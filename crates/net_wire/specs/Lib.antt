@@ -3,3 +3,9 @@ pub mod DhcpBytes
 pub mod DhcpMessage
 pub mod Protocol
 pub mod Time
+pub mod IpAddress
+pub mod DnsName
+pub mod DnsLabels
+pub mod DnsMessage
+pub mod DnsRead
+pub mod DnsExamples

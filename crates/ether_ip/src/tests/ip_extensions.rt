@@ -1,6 +1,5 @@
 //! Extension headers of known packets.
 
-use crate::ip::raw_ext::is_raw_ext;
 use crate::{
     IpAuthHeaderSlice, IpFragId, IpFragVersionSpecId, Ipv4ExtensionsSlice, Ipv6ExtensionSlice,
     Ipv6FragmentHeaderSlice, Ipv6RawExtHeaderSlice,
@@ -55,16 +54,19 @@ fn lengths_count_eight_bytes(rt: HostRuntime) -> Result<(), Fail> {
 }
 
 #[test]
-fn six_numbers_are_told_apart(rt: HostRuntime) {
-    for (number, is_one) in [
-        (0, true),
-        (43, true),
-        (44, false),
-        (51, false),
-        (59, false),
-        (60, true),
+fn a_length_error_names_the_layer_of_the_number(rt: HostRuntime) {
+    for (number, layer) in [
+        (0, Layer::Ipv6HopByHopHeader),
+        (43, Layer::Ipv6RouteHeader),
+        (60, Layer::Ipv6DestOptionsHeader),
+        (135, Layer::Ipv6DestOptionsHeader),
     ] {
-        assert_eq!(rt; is_raw_ext(IpNumber(number)), is_one, "number {number}");
+        let refusal = Ipv6RawExtHeaderSlice::from_slice(IpNumber(number), &ROUTING[..7]);
+        assert_eq!(rt;
+            refusal.err().map(|error| error.layer),
+            Some(layer),
+            "number {number}"
+        );
     }
 }
 
