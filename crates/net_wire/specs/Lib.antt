@@ -1,5 +1,9 @@
 pub mod Datagram
 pub mod DhcpBytes
+pub mod DhcpFound
 pub mod DhcpMessage
+pub mod DhcpOptions
+pub mod DhcpRead
 pub mod Protocol
 pub mod Time
+pub mod Unicast

@@ -5,6 +5,10 @@ use crate::{EthernetAddress, Instant};
 #[derive(Clone, Copy, Debug, PartialEq, Eq)]
 pub struct NoMemory;
 
+/// The bytes are no message of the kind that was to be read.
+#[derive(Clone, Copy, Debug, PartialEq, Eq)]
+pub struct Malformed;
+
 /// Why a message was not emitted.
 #[derive(Clone, Copy, Debug, PartialEq, Eq)]
 pub enum EmitError {

@@ -15,7 +15,7 @@ pub mod udp;
 
 pub use address::{EthernetAddress, Ipv4Address, Ipv4Cidr};
 pub use dhcp::{DhcpMessageType, DhcpOption, DhcpRepr};
-pub use error::{Context, EmitError, NoMemory};
+pub use error::{Context, EmitError, Malformed, NoMemory};
 pub use ethernet::EthernetRepr;
 pub use ipv4::Ipv4Repr;
 pub use protocol::{EthernetProtocol, IpProtocol};
