@@ -1,4 +1,8 @@
 pub mod DatagramLemmas
+pub mod DhcpFoundLemmas
+pub mod DhcpMessageLemmas
+pub mod DhcpReadLemmas
+pub mod DhcpServersLemmas
 pub mod SentFrameLemmas
 pub mod DnsNameLemmas
 pub mod DnsQueryLemmas
