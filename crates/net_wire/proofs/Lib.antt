@@ -7,3 +7,4 @@ pub mod SentFrameLemmas
 pub mod DnsNameLemmas
 pub mod DnsQueryLemmas
 pub mod ProtocolLemmas
+pub mod PrettyLemmas

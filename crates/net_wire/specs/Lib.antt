@@ -13,3 +13,6 @@ pub mod DnsMessage
 pub mod DnsRead
 pub mod DnsExamples
 pub mod Unicast
+pub mod Pretty
+pub mod PrettyExamples
+pub mod PrettyIndent
