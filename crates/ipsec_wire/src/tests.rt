@@ -3,6 +3,7 @@ use crate::{ah, esp};
 use net_wire::{Error, IpProtocol};
 use std::convert::AsSlice;
 use std::test::Fail;
+use wire_base::number::append;
 
 /// An authentication header with a check value of 12 bytes, in front of an ESP packet.
 const AH_PACKET: [u8; 24] = [
@@ -36,11 +37,22 @@ fn writes_an_authentication_header(rt: HostRuntime) -> Result<(), Fail> {
     let mut packet = ah::PacketMut::new_unchecked(&mut bytes);
     repr.emit(&mut packet);
     assert_eq!(rt; repr.buffer_len(), 24);
-    let icv = packet.integrity_check_value_mut();
-    assert_eq!(rt; icv.len(), 12);
-    assert_eq!(rt; &packet.into_inner()[..24], AH_PACKET.as_slice());
-    assert_eq!(rt; &bytes[24..], [0xff, 0xff].as_slice());
+    let mut want = [0xff; 26];
+    append(&mut want, 0, &AH_PACKET);
+    assert_eq!(rt; &*packet.into_inner(), want.as_slice());
     Ok(())
+}
+
+#[test]
+fn lends_the_check_value(rt: HostRuntime) {
+    let mut bytes = AH_PACKET;
+    let mut packet = ah::PacketMut::new_unchecked(&mut bytes);
+    let icv = packet.integrity_check_value_mut();
+    icv.fill(7);
+    assert_eq!(rt; &*icv, [7; 12].as_slice());
+    let mut want = AH_PACKET;
+    append(&mut want, 12, &[7; 12]);
+    assert_eq!(rt; &*packet.into_inner(), want.as_slice());
 }
 
 #[test]

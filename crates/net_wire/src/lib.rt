@@ -9,6 +9,7 @@ pub mod ethernet;
 pub mod ip;
 pub mod ipv4;
 pub mod laws;
+pub mod pretty;
 pub mod protocol;
 #[cfg(test)]
 mod tests;
