@@ -1,9 +1,14 @@
 //! Answers of the writers and emitters, and what the clients are told of the host.
 use crate::{EthernetAddress, Instant};
+use std::fmt;
 
 /// Memory ran out.
 #[derive(Clone, Copy, Debug, PartialEq, Eq)]
 pub struct NoMemory;
+
+/// The bytes are no message of the kind that was to be read.
+#[derive(Clone, Copy, Debug, PartialEq, Eq)]
+pub struct Malformed;
 
 /// Why a message was not emitted.
 #[derive(Clone, Copy, Debug, PartialEq, Eq)]
@@ -33,3 +38,19 @@ impl From<NoMemory> for EmitError {
         EmitError::NoMemory
     }
 }
+
+/// A packet is too short for its header, or the header's own length is wrong.
+#[derive(Clone, Copy, Debug, PartialEq, Eq)]
+pub struct Error;
+
+impl fmt::Display for Error {
+    ghost use Rattle.std.specs.Prelude.{Some, codes};
+
+    ghost output = { λ _. Some (codes "wire::Error") };
+
+    fn fmt<W: fmt::Write>(&self, f: &mut fmt::Formatter<W>) -> fmt::Result {
+        write!(f, "wire::Error")
+    }
+}
+
+impl std::error::Error for Error {}

@@ -3,20 +3,24 @@
 
 pub mod address;
 pub mod dhcp;
+pub mod dns;
 pub mod error;
 pub mod ethernet;
+pub mod ip;
 pub mod ipv4;
 pub mod laws;
+pub mod pretty;
 pub mod protocol;
 #[cfg(test)]
 mod tests;
 pub mod time;
 pub mod udp;
 
-pub use address::{EthernetAddress, Ipv4Address, Ipv4Cidr};
+pub use address::{EthernetAddress, IpAddress, Ipv4Address, Ipv4Cidr, Ipv6Address};
 pub use dhcp::{DhcpMessageType, DhcpOption, DhcpRepr};
-pub use error::{Context, EmitError, NoMemory};
+pub use error::{Context, EmitError, Error, Malformed, NoMemory};
 pub use ethernet::EthernetRepr;
+pub use ip::IpRepr;
 pub use ipv4::Ipv4Repr;
 pub use protocol::{EthernetProtocol, IpProtocol};
 pub use time::{Duration, Instant};

@@ -1,0 +1,6 @@
+-- No point was passed.
+use Rattle.std.proofs.Common.{◌≡◌, ℕ, ◌<◌, get_or}
+use Rattle.dns_client.proofs.name.first_part.Given as goal
+
+abbrev pub invariant-loop-at : goal.invariant-loop-at
+invariant-loop-at l = (k : ℕ) → k < l.at → get_or l.text k 0 ≡ 46 → ⊥

@@ -1,0 +1,113 @@
+//! The client.
+ghost use Rattle.std.specs.Prelude.{◌≡◌, take};
+
+use crate::GetQueryResultError;
+use crate::query::{DnsQuery, QueryHandle};
+use crate::slots::{free, is_live, least_due, take_result};
+use arrayvec::ArrayVec;
+use managed::ManagedSlice;
+use net_wire::{Instant, IpAddress};
+
+/// A DNS client (RFC 1035, section 7). Its slots are a caller's, or a list that grows.
+#[derive(Debug, Drop)]
+pub struct Socket<'a> {
+    pub(crate) servers: ArrayVec<IpAddress, 3>,
+    pub(crate) queries: ManagedSlice<'a, Option<DnsQuery>>,
+    pub(crate) hop_limit: Option<u8>,
+}
+
+/// The first three servers of a list.
+fn first_servers(servers: &[IpAddress]) -> ArrayVec<IpAddress, 3>
+    ensures { result.items ≡ take 3 servers.now }
+{
+    let mut kept = ArrayVec::new();
+    match kept.try_extend_from_slice(&servers[..servers.len().min(3)]) {
+        Ok(()) => kept,
+        Err(_) => unreachable!(),
+    }
+}
+
+impl<'a> Socket<'a> {
+    ghost use Rattle.std.specs.Prelude.{◌≢◌, Some, None, IsTrue, IsSome, ◌↔◌};
+    ghost use Rattle.managed.specs.Storage.{items_of, item_storage};
+    ghost use Rattle.dns_client.specs.Client.{client_of};
+    ghost use Rattle.dns_client.specs.Slots.{slot_at, without, Gives, least_due};
+
+    /// A client of the first three servers. Slots that hold queries keep them.
+    pub fn new(servers: &[IpAddress], queries: ManagedSlice<'a, Option<DnsQuery>>) -> Socket<'a>
+        ensures value { client_of result ≡ record {
+          servers = take 3 servers.now;
+          slots = items_of queries.entry;
+          hop_limit = None;
+          storage = item_storage queries.entry;
+        } }
+    {
+        Socket {
+            servers: first_servers(servers),
+            queries,
+            hop_limit: None,
+        }
+    }
+
+    /// The first three servers are asked from now on.
+    pub fn update_servers(&mut self, servers: &[IpAddress])
+        ensures value { client_of self.new ≡ record (client_of self.old) { servers = take 3 servers.now } }
+    {
+        self.servers = first_servers(servers);
+    }
+
+    /// The hop limit that was set; without one messages have 64.
+    pub fn hop_limit(&self) -> Option<u8>
+        ensures value { result ≡ (client_of self.now).hop_limit }
+    {
+        self.hop_limit
+    }
+
+    /// No datagram has the hop limit 0 (RFC 1122, section 3.2.1.7).
+    pub fn set_hop_limit(&mut self, hop_limit: Option<u8>)
+        requires { hop_limit ≢ Some 0 }
+        ensures value { client_of self.new ≡ record (client_of self.old) { hop_limit = hop_limit } }
+    {
+        self.hop_limit = hop_limit;
+    }
+
+    /// Whether a handle names a query.
+    pub fn is_live(&self, handle: QueryHandle) -> bool
+        ensures value { IsTrue result ↔ IsSome (slot_at (client_of self.now).slots handle) }
+    {
+        is_live(self.queries.as_slice(), handle)
+    }
+
+    /// The addresses of a query. A query that ended frees its slot.
+    pub fn get_query_result(
+        &mut self,
+        handle: QueryHandle,
+    ) -> Result<ArrayVec<IpAddress, 4>, GetQueryResultError>
+        requires { IsSome (slot_at (client_of self.old).slots handle) }
+        ensures value { Gives (client_of self.old).slots handle result (client_of self.new).slots }
+        ensures others { client_of self.new ≡ record (client_of self.old) { slots = (client_of self.new).slots } }
+    {
+        match &mut self.queries {
+            ManagedSlice::Borrowed(slots) => take_result(slots, handle),
+            ManagedSlice::Owned(slots) => take_result(slots.as_mut_slice(), handle),
+        }
+    }
+
+    /// Ends a query and frees its slot.
+    pub fn cancel_query(&mut self, handle: QueryHandle)
+        requires { IsSome (slot_at (client_of self.old).slots handle) }
+        ensures value { client_of self.new ≡ record (client_of self.old) { slots = without (client_of self.old).slots handle } }
+    {
+        match &mut self.queries {
+            ManagedSlice::Borrowed(slots) => free(slots, handle),
+            ManagedSlice::Owned(slots) => free(slots.as_mut_slice(), handle),
+        }
+    }
+
+    /// When to call `dispatch` next: the least due of the queries that wait.
+    pub fn poll_at(&self) -> Option<Instant>
+        ensures value { result ≡ least_due (client_of self.now).slots }
+    {
+        least_due(self.queries.as_slice())
+    }
+}
