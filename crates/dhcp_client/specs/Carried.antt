@@ -5,16 +5,18 @@ use Rattle.dhcp_client.specs.declared.messages.OutgoingMessage.{OutgoingMessage}
 use Rattle.dhcp_client.specs.declared.plan.Plan as declared
 use Rattle.dhcp_client.specs.declared.plan.Plan.TheVariants as variant
 use Rattle.dhcp_client.specs.Messages.{Outgoing, outgoing_of}
-use Rattle.dhcp_client.specs.Plan.{Plan, Wait, Send}
+use Rattle.dhcp_client.specs.Plan.{Plan, Wait, Restart, Send}
 
 abbrev pub outgoing_value : OutgoingMessage → Outgoing
 outgoing_value outgoing = outgoing_of outgoing.ip outgoing.udp outgoing.dhcp
 
 abbrev pub plan_value : declared.Plan → Plan
 plan_value variant.Wait = Wait
+plan_value variant.Restart = Restart
 plan_value (variant.Send outgoing before after) = Send (outgoing_value outgoing) before after
 
 -- the message, if there is one, can be written
 abbrev pub IsWritablePlan : Plan → Type 0
 IsWritablePlan Wait = ⊤
+IsWritablePlan Restart = ⊤
 IsWritablePlan (Send outgoing before after) = IsWritable outgoing.message

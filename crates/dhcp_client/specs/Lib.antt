@@ -1,5 +1,6 @@
 pub mod Carried
 pub mod Client
+pub mod Config
 pub mod Emit
 pub mod Messages
 pub mod Plan

@@ -1,6 +1,7 @@
 //! The DHCP client (RFC 2131): when it sends which message, and what it makes of the answers.
 #![tactic(auto)]
 
+pub mod config;
 pub mod emit;
 pub mod laws;
 mod messages;
@@ -9,6 +10,7 @@ pub mod retry;
 pub mod socket;
 pub mod state;
 
+pub use config::ClientConfig;
 pub use emit::DhcpEmit;
 pub use retry::RetryConfig;
 pub use socket::Socket;

@@ -6,6 +6,8 @@ use crate::state::ClientState;
 #[derive(Debug, Drop)]
 pub(crate) enum Plan<'a> {
     Wait,
+    /// Discovers anew.
+    Restart,
     Send {
         outgoing: OutgoingMessage<'a>,
         /// If the message is refused.

@@ -1,8 +1,8 @@
 //! The client.
 use crate::messages::{broadcast, discover};
 use crate::plan::Plan;
-use crate::{ClientState, DhcpEmit, RetryConfig};
-use net_wire::{Context, DhcpOption, EmitError, Instant};
+use crate::{ClientConfig, ClientState, DhcpEmit};
+use net_wire::{Context, EmitError, Instant};
 use std::marker::Model;
 
 /// A DHCP client (RFC 2131, section 4.4).
@@ -11,53 +11,66 @@ pub struct Socket<'a> {
     state: ClientState,
     /// Of the message sent last; 1 before any.
     transaction_id: u32,
-    retry_config: RetryConfig,
-    server_port: u16,
-    client_port: u16,
-    parameter_request_list: &'a [u8],
-    outgoing_options: &'a [DhcpOption<'a>],
+    config: ClientConfig<'a>,
 }
 
 impl<'a> Model for Socket<'a> {
-    ghost use Rattle.std.specs.Prelude.{map, ◌<◌, ◌≤◌, length};
-    ghost use Rattle.net_wire.specs.DhcpMessage.{option_value};
     ghost use Rattle.dhcp_client.specs.Client.{Client};
+    ghost use Rattle.dhcp_client.specs.Config.{client_settings, IsRequestList};
 
     ghost Value = { Client };
 
     ghost view = { λ s. record {
       state = s.state;
       transaction_id = s.transaction_id;
-      retry = s.retry_config;
-      server_port = s.server_port;
-      client_port = s.client_port;
-      parameters = s.parameter_request_list.now;
-      options = map option_value s.outgoing_options.now;
+      settings = client_settings s.config;
     } };
 
-    ghost invariant = { λ s. (0 < length s.parameter_request_list.now) × (length s.parameter_request_list.now ≤ 255) };
+    ghost invariant = { λ s. IsRequestList s.config.parameters.now };
 }
 
 impl<'a> Socket<'a> {
     ghost use Rattle.std.specs.Prelude.{◌≡◌};
-    ghost use Rattle.dhcp_client.specs.Client.{SameSettings, new_client, poll_at_of};
+    ghost use Rattle.dhcp_client.specs.Client.{new_client, poll_at_of};
+    ghost use Rattle.dhcp_client.specs.Config.{AreSettingsWritable, IsRequestList, client_settings, default_settings};
     ghost use Rattle.dhcp_client.specs.Carried.{plan_value, IsWritablePlan};
-    ghost use Rattle.dhcp_client.specs.Plan.{CanDispatch, Dispatched, plan_for};
+    ghost use Rattle.dhcp_client.specs.Plan.{Dispatched, plan_for};
+
+    /// A client that was told nothing: it discovers at moment 0.
+    pub fn new() -> Self
+        ensures { result ≡ new_client default_settings }
+    {
+        Socket::with_config(ClientConfig::default())
+    }
 
     /// A client that discovers at moment 0.
-    pub fn new() -> Self
-        ensures { result ≡ new_client }
+    pub fn with_config(config: ClientConfig<'a>) -> Self
+        requires { IsRequestList config.parameters.now }
+        ensures { result ≡ new_client (client_settings config.entry) }
     {
+        let ClientConfig {
+            retry,
+            server_port,
+            client_port,
+            max_lease,
+            ignore_naks,
+            parameters,
+            options,
+        } = config;
         Socket {
             state: ClientState::Discovering {
                 retry_at: Instant::ZERO,
             },
             transaction_id: 1,
-            retry_config: RetryConfig::default(),
-            server_port: 67,
-            client_port: 68,
-            parameter_request_list: &[1, 3, 6],
-            outgoing_options: &[],
+            config: ClientConfig {
+                retry,
+                server_port,
+                client_port,
+                max_lease,
+                ignore_naks,
+                parameters,
+                options,
+            },
         }
     }
 
@@ -77,12 +90,18 @@ impl<'a> Socket<'a> {
         word: u32,
         out: &mut E,
     ) -> Result<(), EmitError>
-        requires { CanDispatch self.old cx.now }
+        requires { AreSettingsWritable self.old.settings cx.now.ip_mtu }
         ensures value { Dispatched E.took E.refused (plan_for self.old cx.entry.now word) result self.old self.new out.old out.new }
-        ensures others { SameSettings self.old self.new }
+        ensures others { self.new.settings ≡ self.old.settings }
     {
         match self.plan(cx, word) {
             Plan::Wait => Ok(()),
+            Plan::Restart => {
+                self.state = ClientState::Discovering {
+                    retry_at: Instant::ZERO,
+                };
+                Ok(())
+            }
             Plan::Send {
                 outgoing,
                 before,
@@ -99,7 +118,7 @@ impl<'a> Socket<'a> {
 
     /// What is due.
     fn plan(&self, cx: &Context, word: u32) -> Plan<'a>
-        requires { CanDispatch self.now cx.now }
+        requires { AreSettingsWritable self.now.settings cx.now.ip_mtu }
         ensures value { plan_value result ≡ plan_for self.now cx.entry.now word }
         ensures writable { IsWritablePlan (plan_value result) }
     {
@@ -108,15 +127,15 @@ impl<'a> Socket<'a> {
                 let discover = discover(
                     cx.hardware_addr,
                     cx.ip_mtu,
-                    self.parameter_request_list,
-                    self.outgoing_options,
+                    self.config.parameters,
+                    self.config.options,
                     word,
                 );
                 Plan::Send {
-                    outgoing: broadcast(self.client_port, self.server_port, discover),
+                    outgoing: broadcast(self.config.client_port, self.config.server_port, discover),
                     before: self.state,
                     after: ClientState::Discovering {
-                        retry_at: cx.now + self.retry_config.discover_timeout,
+                        retry_at: cx.now + self.config.retry.discover_timeout,
                     },
                 }
             }

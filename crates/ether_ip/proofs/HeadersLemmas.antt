@@ -11,11 +11,11 @@ use Rattle.ether_ip.specs.IpWindow.{ip_announced}
 use Rattle.ether_ip.specs.IpHeaders.{ip_header, extension_in, number_in, is_fragment_in}
 use Rattle.ether_ip.specs.HeldWalk.{IsHeldEnd}
 use Rattle.ether_ip.specs.declared.err.ipv6_exts.HeaderSliceError.{HeaderSliceError}
-use Rattle.ether_ip.specs.declared.ip.exts.Ipv6Extensions.{Ipv6Extensions}
+use Rattle.ether_ip.specs.declared.ip.ext_places.ExtensionPlaces.{ExtensionPlaces}
 
 -- the extension headers behind the IP header, by what that header says
 pub extensions_behind : (packet : List ℕ) (len : ℕ) (first : Option PartKind) (number : ℕ) (fragment : Bool) (end : ℕ)
-    (held : Ipv6Extensions) (at next : ℕ) (is_fragment : Bool) (stop : Option (Stop HeaderSliceError))
+    (held : ExtensionPlaces) (at next : ℕ) (is_fragment : Bool) (stop : Option (Stop HeaderSliceError))
     → refusal ip_slice_form packet ≡ None → len ≡ header_len ip_slice_form packet
     → first ≡ extension_in (take len packet) → number ≡ number_in (take len packet) → fragment ≡ is_fragment_in (take len packet)
     → end ≡ window_end 0 (length packet) (ip_announced (take len packet))

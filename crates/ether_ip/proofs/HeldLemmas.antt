@@ -1,22 +1,25 @@
 -- What a reader knows that puts extension headers into their places.
-use Rattle.std.proofs.Common.{◌≡◌, ℕ, ◌<◌, Bool, true, false, List, [], ◌∷◌, ◌++◌, Option, Some, None, refl, sym, ap, ◌∙◌, arith}
+use Rattle.std.proofs.Common.{◌≡◌, ℕ, ◌<◌, Bool, true, false, List, [], ◌∷◌, ◌++◌, take, Option, Some, None, refl, sym, ap, ◌∙◌, arith}
 use Rattle.std.specs.Prelude.{slice_range}
 use Rattle.std.proofs.lemmas.List.{append-nil, append_assoc}
 use Rattle.ether_link.specs.Form.{header_len, refusal}
-use Rattle.ether_link.specs.Layout.{IsLayoutFrom, IsOrderly}
+use Rattle.ether_link.specs.Layout.{IsLayoutFrom, IsOrderly, place_of}
 use Rattle.ether_link.specs.Places.{header_at}
 use Rattle.ether_link.specs.declared.layout.Place.{Place}
 use Rattle.ether_link.specs.declared.layout.Stop.{Stop}
 use Rattle.ether_link.specs.declared.layout.PartKind.{PartKind}
-use Rattle.ether_link.specs.declared.layout.PartKind.TheVariants.{HopByHop, Route, Fragment, DestinationOptions, Ipv4Auth, Ipv6Auth}
-use Rattle.ether_link.proofs.FormLemmas.{no_early}
+use Rattle.ether_link.specs.declared.layout.PartKind.TheVariants.{HopByHop, LateHopByHop, Route, Fragment, DestinationOptions, Ipv4Auth, Ipv6Auth}
+use Rattle.ether_link.proofs.FormLemmas.{no_early, has_header}
 use Rattle.ether_link.proofs.LayoutLemmas.{some}
+use Rattle.ether_link.proofs.RangeLemmas.{header_is}
 use Rattle.ether_ip.specs.ExtensionGrammar.{ExtensionErrors, extension_grammar, extension_form_of, turn_to}
 use Rattle.ether_ip.specs.Chain.{chain_errors}
-use Rattle.ether_ip.specs.Held.{no_extensions, is_taken, with_header, held_by, free_places, free_stop}
+use Rattle.ether_ip.specs.Extensions.{extension_slice}
+use Rattle.ether_ip.specs.Held.{no_extensions, is_taken, is_extension, with_extension, with_header, held_by, free_places, free_stop}
 use Rattle.ether_ip.specs.HeldWalk.{IsHeldEnd}
 use Rattle.ether_ip.specs.declared.err.ipv6_exts.HeaderSliceError.{HeaderSliceError}
-use Rattle.ether_ip.specs.declared.ip.exts.Ipv6Extensions.{Ipv6Extensions}
+use Rattle.ether_ip.specs.declared.ip.ext_places.ExtensionPlaces.{ExtensionPlaces}
+use Rattle.ether_ip.specs.declared.ip.exts.Ipv6ExtensionSlice.{Ipv6ExtensionSlice}
 use Rattle.ether_ip.proofs.WalkLemmas.{IsExtensionWalk, extensions_stopped, extensions_ended}
 
 pub extension_positive : {E : Type 0} (errors : ExtensionErrors E) (kind : PartKind) (bytes : List ℕ)
@@ -35,13 +38,13 @@ extensions_are_orderly errors = record {
   covers = λ kind bytes said accepted is. absurd (cc);
 }
 
-held_by-one_more : (bytes : List ℕ) (held : Ipv6Extensions) (places : List Place) (place : Place)
+held_by-one_more : (bytes : List ℕ) (held : ExtensionPlaces) (places : List Place) (place : Place)
     → held_by bytes held (places ++ place ∷ []) ≡ with_header place.kind (header_at bytes place) (held_by bytes held places)
 held_by-one_more bytes held [] place = refl
 held_by-one_more bytes held (p ∷ ps) place = held_by-one_more bytes (with_header p.kind (header_at bytes p) held) ps place
 
 -- the places that were read are free, whatever follows
-pub record AreFree (packet : List ℕ) (held : Ipv6Extensions) (places : List Place) : Type 0 where
+pub record AreFree (packet : List ℕ) (held : ExtensionPlaces) (places : List Place) : Type 0 where
   pub held_is : held ≡ held_by packet no_extensions places
   pub free : (more : List Place) → free_places packet no_extensions (places ++ more) ≡ places ++ free_places packet held more
   pub stops : (more : List Place) (stop : Option (Stop HeaderSliceError))
@@ -50,16 +53,16 @@ pub record AreFree (packet : List ℕ) (held : Ipv6Extensions) (places : List Pl
 pub none_taken : (packet : List ℕ) → AreFree packet no_extensions []
 none_taken packet = record { held_is = refl; free = λ more. refl; stops = λ more stop. refl }
 
-free-open : (packet : List ℕ) (held : Ipv6Extensions) (place : Place) (more : List Place) → is_taken place.kind held ≡ false
+free-open : (packet : List ℕ) (held : ExtensionPlaces) (place : Place) (more : List Place) → is_taken place.kind held ≡ false
     → free_places packet held (place ∷ more) ≡ place ∷ free_places packet (with_header place.kind (header_at packet place) held) more
 free-open packet held place more open_place = rw open_place refl
 
-stop-open : (packet : List ℕ) (held : Ipv6Extensions) (place : Place) (more : List Place) (stop : Option (Stop HeaderSliceError))
+stop-open : (packet : List ℕ) (held : ExtensionPlaces) (place : Place) (more : List Place) (stop : Option (Stop HeaderSliceError))
     → is_taken place.kind held ≡ false
     → free_stop packet held (place ∷ more) stop ≡ free_stop packet (with_header place.kind (header_at packet place) held) more stop
 stop-open packet held place more stop open_place = rw open_place refl
 
-pub one_more_free : (packet : List ℕ) (held : Ipv6Extensions) (places : List Place) (place : Place) → AreFree packet held places
+pub one_more_free : (packet : List ℕ) (held : ExtensionPlaces) (places : List Place) (place : Place) → AreFree packet held places
     → is_taken place.kind held ≡ false → AreFree packet (with_header place.kind (header_at packet place) held) (places ++ place ∷ [])
 one_more_free packet held places place frees open_place = record {
   held_is = ap (with_header place.kind (header_at packet place)) frees.held_is ∙ sym (held_by-one_more packet no_extensions places place);
@@ -71,8 +74,33 @@ one_more_free packet held places place frees open_place = record {
   stops = λ more stop. rw (append_assoc places (place ∷ []) more) (frees.stops (place ∷ more) stop ∙ stop-open packet held place more stop open_place);
 }
 
+-- what is read as an extension header is one
+pub extension_accepted : {E : Type 0} (errors : ExtensionErrors E) (kind : PartKind) (bytes : List ℕ)
+    → refusal (extension_form_of errors kind) bytes ≡ None → is_extension kind ≡ true
+extension_accepted errors HopByHop bytes accepted = refl
+extension_accepted errors LateHopByHop bytes accepted = refl
+extension_accepted errors Route bytes accepted = refl
+extension_accepted errors Fragment bytes accepted = refl
+extension_accepted errors DestinationOptions bytes accepted = refl
+extension_accepted errors Ipv4Auth bytes accepted = refl
+extension_accepted errors Ipv6Auth bytes accepted = refl
+extension_accepted errors kind bytes accepted = let refused = no_early (extension_form_of errors kind) bytes accepted in absurd (cc)
+
+-- one header more, as it was read
+pub one_more_held : (packet : List ℕ) (held : ExtensionPlaces) (places : List Place) (kind : PartKind) (at to : ℕ) (header : Ipv6ExtensionSlice)
+    → refusal (extension_form_of chain_errors kind) (slice_range packet at to) ≡ None
+    → header ≡ extension_slice kind (take (header_len (extension_form_of chain_errors kind) (slice_range packet at to)) (slice_range packet at to))
+    → AreFree packet held places → is_taken kind held ≡ false
+    → AreFree packet (with_extension header held) (places ++ place_of (extension_grammar chain_errors) kind (slice_range packet at to) at to ∷ [])
+one_more_held packet held places kind at to header accepted is frees open_place =
+    let there = has_header (extension_form_of chain_errors kind) (slice_range packet at to) accepted in
+    let in_place = header_is packet at to (header_len (extension_form_of chain_errors kind) (slice_range packet at to)) there in
+    let more = one_more_free packet held places (place_of (extension_grammar chain_errors) kind (slice_range packet at to) at to) frees open_place in
+    let is_one = extension_accepted chain_errors kind (slice_range packet at to) accepted in
+    rw (is, in_place) (rw is_one at more)
+
 module _ (packet : List ℕ) (first : Option PartKind) (start : ℕ) (fragment : Bool) (from to : ℕ)
-    (at number : ℕ) (fragmented : Bool) (held : Ipv6Extensions) (places : List Place) (frees : AreFree packet held places) where
+    (at number : ℕ) (fragmented : Bool) (held : ExtensionPlaces) (places : List Place) (frees : AreFree packet held places) where
   all_free : free_places packet no_extensions places ≡ places
   all_free = rw append-nil at (frees.free [])
 

@@ -1,5 +1,5 @@
 -- How the extension headers of an IP packet follow one another (RFC 4302, section 3.1; RFC 8200, sections 4 and 4.1).
-use Rattle.std.specs.Prelude.{ℕ, ◌≤◌, ◌==◌, Bool, ◌||◌, if◌then◌else◌, List, slice_index, Option, Some, None}
+use Rattle.std.specs.Prelude.{ℕ, ◌==◌, Bool, ◌||◌, if◌then◌else◌, List, slice_index, Option, Some, None}
 use Rattle.ether_link.specs.Form.{Form, never_refused, nothing_more, never_alone}
 use Rattle.ether_link.specs.Layout.{Grammar}
 use Rattle.ether_link.specs.Places.{layer_of_kind}
@@ -78,13 +78,3 @@ extension_grammar errors = record {
   next = λ turn header.
       turn_to turn.link_exts (fragmented_behind turn.kind turn.fragmented header) (kind_behind turn.kind (slice_index header 0));
 }
-
--- a header of a kind has so many bytes
-abbrev pub HasRoom : PartKind → ℕ → Type 0
-HasRoom HopByHop len = (8 ≤ len) × (len ≤ 2048)
-HasRoom Route len = (8 ≤ len) × (len ≤ 2048)
-HasRoom DestinationOptions len = (8 ≤ len) × (len ≤ 2048)
-HasRoom Fragment len = 8 ≤ len
-HasRoom Ipv4Auth len = (12 ≤ len) × (len ≤ 1028)
-HasRoom Ipv6Auth len = (12 ≤ len) × (len ≤ 1028)
-HasRoom kind len = Unit {0}

@@ -9,11 +9,11 @@ use Rattle.ether_ip.specs.ExtensionGrammar.{extension_grammar, turn_to}
 use Rattle.ether_ip.specs.Chain.{chain_errors, number_behind, is_fragmented}
 use Rattle.ether_ip.specs.Held.{no_extensions, held_by, free_places, free_stop}
 use Rattle.ether_ip.specs.declared.err.ipv6_exts.HeaderSliceError.{HeaderSliceError}
-use Rattle.ether_ip.specs.declared.ip.exts.Ipv6Extensions.{Ipv6Extensions}
+use Rattle.ether_ip.specs.declared.ip.ext_places.ExtensionPlaces.{ExtensionPlaces}
 
 -- the headers of a packet from a place on, up to the first one that is refused or whose place is taken
 pub record IsHeldEnd (packet : List ℕ) (first : Option PartKind) (number : ℕ) (fragmented : Bool) (from to : ℕ)
-    (held : Ipv6Extensions) (at next : ℕ) (is_fragment : Bool) (stop : Option (Stop HeaderSliceError)) : Type 0 where
+    (held : ExtensionPlaces) (at next : ℕ) (is_fragment : Bool) (stop : Option (Stop HeaderSliceError)) : Type 0 where
   pub places : List Place
   pub last : Option (Stop HeaderSliceError)
   pub layout : IsLayoutFrom (extension_grammar chain_errors) packet (turn_to 0 fragmented first) from to places last

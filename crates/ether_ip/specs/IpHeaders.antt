@@ -1,5 +1,5 @@
 -- The headers of an IP packet as structs, and what they leave (RFC 791, section 3.1; RFC 8200, sections 3 and 4.1; RFC 4302, section 3.1).
-use Rattle.std.specs.Prelude.{◌≡◌, ℕ, ◌==◌, Bool, true, false, if◌then◌else◌, List, length, take, slice_index, slice_range, Option, Some, None}
+use Rattle.std.specs.Prelude.{◌≡◌, ℕ, ◌==◌, Bool, true, false, if◌then◌else◌, List, length, take, slice_index, slice_range, Option, Some, None, option_map}
 use Rattle.ether_link.specs.Form.{header_len}
 use Rattle.ether_link.specs.Layout.{window_end}
 use Rattle.ether_link.specs.Places.{is_cut_off, layer_of_kind}
@@ -14,6 +14,8 @@ use Rattle.ether_ip.specs.Ipv4.{ipv4_header, is_ipv4_fragment}
 use Rattle.ether_ip.specs.Ipv6.{ipv6_header}
 use Rattle.ether_ip.specs.IpWindow.{ip_announced, ip_source}
 use Rattle.ether_ip.specs.ExtensionGrammar.{first_extension_kind}
+use Rattle.ether_ip.specs.Auth.{auth_header}
+use Rattle.ether_ip.specs.Held.{extensions_of}
 use Rattle.ether_ip.specs.HeldWalk.{IsHeldEnd}
 use Rattle.ether_ip.specs.declared.err.ip_exts.HeaderError as headers_error
 use Rattle.ether_ip.specs.declared.err.ip_exts.HeadersSliceError as headers
@@ -21,7 +23,7 @@ use Rattle.ether_ip.specs.declared.err.ipv6_exts.HeaderError as chain_error
 use Rattle.ether_ip.specs.declared.err.ipv6_exts.HeaderSliceError as chain
 use Rattle.ether_ip.specs.declared.ip.exts.IpHeaders.{IpHeaders}
 use Rattle.ether_ip.specs.declared.ip.exts.IpHeaders.TheVariants.{Ipv4, Ipv6}
-use Rattle.ether_ip.specs.declared.ip.exts.Ipv6Extensions.{Ipv6Extensions}
+use Rattle.ether_ip.specs.declared.ip.ext_places.ExtensionPlaces.{ExtensionPlaces}
 use Rattle.ether_ip.specs.declared.ip.payload.LaxIpPayloadSlice.{LaxIpPayloadSlice}
 
 -- the IP header of a packet
@@ -45,9 +47,10 @@ abbrev pub is_fragment_in : List ℕ → Bool
 is_fragment_in header = if is_ipv4 header then is_ipv4_fragment header else false
 
 -- the header and its extension headers
-abbrev pub headers_with : List ℕ → Ipv6Extensions → IpHeaders
+abbrev pub headers_with : List ℕ → ExtensionPlaces → IpHeaders
 headers_with header held =
-    if is_ipv4 header then Ipv4 (ipv4_header header) (record { auth = held.auth }) else Ipv6 (ipv6_header header) held
+    if is_ipv4 header then Ipv4 (ipv4_header header) (record { auth = option_map auth_header held.auth })
+    else Ipv6 (ipv6_header header) (extensions_of held)
 
 -- the refusal of an extension header that begins at a place of the packet; the number of bytes that are there is that of the window
 abbrev pub refusal_in : Bool → LenSource → ℕ → chain.HeaderSliceError → headers.HeadersSliceError
@@ -68,7 +71,7 @@ IsStopIn four source stop answer = ⊥
 -- the headers of a packet, each extension header in its place, and the payload behind them
 pub record IsReadOf (packet : List ℕ) (read : IpHeaders) (payload : LaxIpPayloadSlice)
     (stop : Option (headers.HeadersSliceError × Layer)) : Type 0 where
-  pub held : Ipv6Extensions
+  pub held : ExtensionPlaces
   pub at : ℕ
   pub last : Option (Stop chain.HeaderSliceError)
   pub extensions : IsHeldEnd packet (extension_in (ip_header packet)) (number_in (ip_header packet)) (is_fragment_in (ip_header packet))

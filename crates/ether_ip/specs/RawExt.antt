@@ -1,6 +1,6 @@
 -- Extension headers of IPv6 that give their length in units of eight bytes: hop-by-hop options, routing
 -- and destination options (RFC 8200, sections 4.3, 4.4 and 4.6).
-use Rattle.std.specs.Prelude.{◌≡◌, ℕ, ◌+◌, ◌*◌, ◌==◌, Bool, ◌||◌, if◌then◌else◌, List, length, take, drop, slice_index}
+use Rattle.std.specs.Prelude.{◌≡◌, ℕ, ◌+◌, ◌*◌, ◌==◌, if◌then◌else◌, List, length, take, drop, slice_index}
 use Rattle.ether_link.specs.Form.{Form, never_refused, never_alone}
 use Rattle.ether_link.specs.declared.len_source.LenSource.TheVariants.{Slice}
 use Rattle.ether_link.specs.declared.err.layers.Layer.{Layer}
@@ -8,11 +8,7 @@ use Rattle.ether_link.specs.declared.err.layers.Layer.TheVariants.{Ipv6HopByHopH
 use Rattle.ether_link.specs.declared.err.length.LenError.{LenError}
 use Rattle.ether_ip.specs.declared.ip.raw_ext.Ipv6RawExtHeader.{Ipv6RawExtHeader}
 
--- the numbers of these headers
-abbrev pub is_raw_ext : ℕ → Bool
-is_raw_ext number = (number == 0) || ((number == 43) || (number == 60))
-
--- what a header of such a number is
+-- the layer of a number: 0 is that of hop-by-hop options, 43 that of routing, and 60 that of destination options
 abbrev pub raw_ext_layer : ℕ → Layer
 raw_ext_layer number =
     if number == 0 then Ipv6HopByHopHeader else (if number == 43 then Ipv6RouteHeader else Ipv6DestOptionsHeader)

@@ -4,6 +4,7 @@
 #![tactic(auto)]
 
 pub mod err;
+pub mod examples;
 pub mod ip;
 pub mod laws;
 pub mod net_headers;
@@ -12,6 +13,7 @@ mod tests;
 pub mod transport;
 
 pub use ip::auth::{IpAuthHeader, IpAuthHeaderSlice};
+pub use ip::ext_places::ExtensionPlaces;
 pub use ip::exts::{
     IpHeaders, Ipv4Extensions, Ipv4ExtensionsSlice, Ipv6ExtensionSlice, Ipv6Extensions,
     Ipv6RoutingExtensions,
@@ -26,7 +28,7 @@ pub use ip::raw_ext::{Ipv6RawExtHeader, Ipv6RawExtHeaderSlice};
 pub use ip::reassembly::{
     IpDefragPayloadVec, IpFragId, IpFragVersionSpecId, MAX_IP_DEFRAG_LEN, MAX_IP_DEFRAG_LEN_U16,
 };
-pub use ip::window::{IpWindow, ip_window};
+pub use ip::window::{IpWindow, ip_announced, ip_window};
 pub use net_headers::NetHeaders;
 pub use transport::icmp_echo::IcmpEchoHeader;
 pub use transport::icmpv4::{

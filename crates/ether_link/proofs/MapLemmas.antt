@@ -10,7 +10,7 @@ or_else-map : {E F : Type 0} (f : E → F) (a b : Option E) → or_else (option_
 or_else-map f None b = refl
 or_else-map f (Some x) b = refl
 
-cond-map : {E F : Type 0} (f : E → F) (b : Bool) (x : E) → cond b (Some (f x)) None ≡ option_map f (cond b (Some x) None)
+pub cond-map : {E F : Type 0} (f : E → F) (b : Bool) (x : E) → cond b (Some (f x)) None ≡ option_map f (cond b (Some x) None)
 cond-map f true x = refl
 cond-map f false x = refl
 

@@ -1,5 +1,7 @@
 -- What is read off the places of a layout.
-use Rattle.std.specs.Prelude.{ℕ, ◌+◌, nat_lt, Bool, false, List, [], ◌∷◌, slice_range, Option, Some, None}
+use Rattle.std.specs.Prelude.{ℕ, ◌+◌, nat_lt, Bool, false, if◌then◌else◌, List, [], ◌∷◌, slice_range, Option, Some, None}
+use Rattle.ether_link.specs.declared.len_source.LenSource.{LenSource}
+use Rattle.ether_link.specs.declared.len_source.LenSource.TheVariants.{Slice}
 use Rattle.ether_link.specs.declared.err.layers.Layer.{Layer}
 use Rattle.ether_link.specs.declared.err.layers.Layer.TheVariants as layer
 use Rattle.ether_link.specs.declared.layout.PartKind.{PartKind}
@@ -39,3 +41,8 @@ end_of_headers from (place ∷ more) = end_of_headers place.body more
 abbrev pub is_cut_off : ℕ → ℕ → Option ℕ → Bool
 is_cut_off start end None = false
 is_cut_off start end (Some said) = nat_lt end (start + said)
+
+-- the field is where a length is from that fits in the bytes from `start` to `end`
+abbrev pub source_of_length : LenSource → ℕ → ℕ → Option ℕ → LenSource
+source_of_length field start end None = Slice
+source_of_length field start end (Some said) = if nat_lt end (start + said) then Slice else field

@@ -24,6 +24,29 @@ impl EtherType {
 #[derive(Clone, Copy, Debug, Default, PartialEq, Eq, Hash, PartialOrd, Ord)]
 pub struct IpNumber(pub u8);
 
+impl IpNumber {
+    /// IPv6 hop-by-hop options (RFC 8200, section 4.3).
+    pub const IPV6_HEADER_HOP_BY_HOP: IpNumber = IpNumber(0);
+    /// ICMP of version 4 (RFC 792).
+    pub const ICMP: IpNumber = IpNumber(1);
+
+    pub const TCP: IpNumber = IpNumber(6);
+
+    pub const UDP: IpNumber = IpNumber(17);
+    /// An IPv6 routing header (RFC 8200, section 4.4).
+    pub const IPV6_ROUTE_HEADER: IpNumber = IpNumber(43);
+    /// An IPv6 fragment header (RFC 8200, section 4.5).
+    pub const IPV6_FRAGMENTATION_HEADER: IpNumber = IpNumber(44);
+    /// An encapsulating security payload (RFC 4303).
+    pub const ENCAPSULATING_SECURITY_PAYLOAD: IpNumber = IpNumber(50);
+    /// An authentication header (RFC 4302).
+    pub const AUTHENTICATION_HEADER: IpNumber = IpNumber(51);
+    /// ICMP of version 6 (RFC 4443).
+    pub const IPV6_ICMP: IpNumber = IpNumber(58);
+    /// IPv6 destination options (RFC 8200, section 4.6).
+    pub const IPV6_DESTINATION_OPTIONS: IpNumber = IpNumber(60);
+}
+
 /// The kind of hardware that a link runs on (RFC 826; IANA, "ARP Parameters").
 #[derive(Clone, Copy, Debug, Default, PartialEq, Eq, Hash, PartialOrd, Ord)]
 pub struct ArpHardwareId(pub u16);

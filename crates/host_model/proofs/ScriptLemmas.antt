@@ -1,8 +1,8 @@
--- One front of a list of bytes is an event, at most: so its events are determined one by one.
+-- Bytes begin with one event at most: so the events of a list of bytes are determined one by one.
 use Rattle.std.proofs.Common.{◌≡◌, ℕ, ◌^◌, ◌<◌, ◌⊎◌, inl, inr, ⊎_elim, List, [], ◌∷◌, ◌++◌, take, drop, ap, sym, subst, ◌∙◌, refl, arith, append_assoc}
 use Rattle.std.specs.Int.{to_be_bytes, from_be_bytes, w64}
 use Rattle.std.proofs.lemmas.Nat.{from_be_bytes-to_be_bytes_8}
-use Rattle.host_model.specs.Script.{Arrival, Tick, Event, spelled, spelling, kind_byte, rest_bytes, time_limit, IsNext, AreInOrder, last_time}
+use Rattle.host_model.specs.Script.{Arrival, Tick, Event, SpellsArrival, head_bytes, Spells, SpellsAll, time_limit, IsNext, AreInOrder, last_time}
 
 -- the parts of two events that begin one list
 pub record SameFront (s t : ℕ) (a b : Arrival) (xs ys : List ℕ) : Type 0 where
@@ -10,16 +10,15 @@ pub record SameFront (s t : ℕ) (a b : Arrival) (xs ys : List ℕ) : Type 0 whe
   pub arrival : a ≡ b
   pub rest : xs ≡ ys
 
-pub same_front : (s t : ℕ) (a b : Arrival) (xs ys : List ℕ) → s < 2 ^ 64 → t < 2 ^ 64
-    → (kind_byte a ∷ [] ++ to_be_bytes w64 s ++ rest_bytes a) ++ xs ≡ (kind_byte b ∷ [] ++ to_be_bytes w64 t ++ rest_bytes b) ++ ys
-    → SameFront s t a b xs ys
-same_front s t Tick Tick xs ys fits_s fits_t h =
+pub same_front : (s t : ℕ) (a b : Arrival) (r q xs ys : List ℕ) → s < 2 ^ 64 → t < 2 ^ 64 → SpellsArrival a r → SpellsArrival b q
+    → (head_bytes a s ++ r) ++ xs ≡ (head_bytes b t ++ q) ++ ys → SameFront s t a b xs ys
+same_front s t Tick Tick r q xs ys fits_s fits_t none nothing h =
     let numbers : from_be_bytes w64 (to_be_bytes w64 s) ≡ from_be_bytes w64 (to_be_bytes w64 t) =
     ap (λ l. from_be_bytes w64 (take 8 (drop 1 l))) h in
     record {
       time = sym (from_be_bytes-to_be_bytes_8 s fits_s) ∙ numbers ∙ from_be_bytes-to_be_bytes_8 t fits_t;
       arrival = refl;
-      rest = ap (drop 9) h;
+      rest = ap (λ l. l ++ xs) (sym none) ∙ ap (drop 9) h ∙ ap (λ l. l ++ ys) nothing;
     }
 
 -- an event of these parts
@@ -27,30 +26,37 @@ abbrev event_of : ℕ → Arrival → Event
 event_of at arrival = record { at = at; arrival = arrival }
 
 -- the first of two events that begin one list is the second
-pub same_event : (e f : Event) (xs ys : List ℕ) → e.at < time_limit → f.at < time_limit → spelled e ++ xs ≡ spelled f ++ ys
-    → (e ≡ f) × (xs ≡ ys)
-same_event e f xs ys in_e in_f h =
-    let front = same_front e.at f.at e.arrival f.arrival xs ys (omega arith) (omega arith) h in
-    (ap (λ s. event_of s e.arrival) front.time ∙ ap (event_of f.at) front.arrival, front.rest)
+pub same_event : (e f : Event) (front begin xs ys : List ℕ) → e.at < time_limit → f.at < time_limit → Spells e front → Spells f begin
+    → front ++ xs ≡ begin ++ ys → (e ≡ f) × (xs ≡ ys)
+same_event e f front begin xs ys in_e in_f here there h =
+    let spelled = ap (λ l. l ++ xs) (sym here.whole) ∙ h ∙ ap (λ l. l ++ ys) there.whole in
+    let same = same_front e.at f.at e.arrival f.arrival here.rest there.rest xs ys (omega arith) (omega arith) here.brings there.brings spelled in
+    (ap (λ s. event_of s e.arrival) same.time ∙ ap (event_of f.at) same.arrival, same.rest)
 
 -- fs has the events of es and goes on behind them
-pub record GoesOn (last : ℕ) (es fs : List Event) (xs ys : List ℕ) : Type 0 where
+pub record MoreEvents (last : ℕ) (es fs : List Event) (xs : List ℕ) : Type 0 where
   pub event : Event
   pub others : List Event
   pub events : fs ≡ es ++ event ∷ others
   pub next : IsNext (last_time last es) event
-  pub bytes : xs ≡ spelled event ++ (spelling others ++ ys)
+  pub front : List ℕ
+  pub rest : List ℕ
+  pub spelled : Spells event front
+  pub bytes : xs ≡ front ++ rest
 
 -- two readings of one list
 abbrev pub Compared : ℕ → List Event → List Event → List ℕ → List ℕ → Type 0
-Compared last es fs xs ys = ((es ≡ fs) × (xs ≡ ys)) ⊎ (GoesOn last es fs xs ys ⊎ GoesOn last fs es ys xs)
+Compared last es fs xs ys = ((es ≡ fs) × (xs ≡ ys)) ⊎ (MoreEvents last es fs xs ⊎ MoreEvents last fs es ys)
 
-goes_on_behind : (last : ℕ) (e : Event) (es fs : List Event) (xs ys : List ℕ) → GoesOn e.at es fs xs ys → GoesOn last (e ∷ es) (e ∷ fs) xs ys
-goes_on_behind last e es fs xs ys more = record {
+more_behind : (last : ℕ) (e : Event) (es fs : List Event) (xs : List ℕ) → MoreEvents e.at es fs xs → MoreEvents last (e ∷ es) (e ∷ fs) xs
+more_behind last e es fs xs more = record {
   event = more.event;
   others = more.others;
   events = ap (λ l. e ∷ l) more.events;
   next = more.next;
+  front = more.front;
+  rest = more.rest;
+  spelled = more.spelled;
   bytes = more.bytes;
 }
 
@@ -60,29 +66,35 @@ same_head last e f es fs xs ys is_e compared =
     subst P (sym is_e) (⊎_elim
     (λ (same : (es ≡ fs) × (xs ≡ ys)). inl (ap (λ l. e ∷ l) same.0, same.1))
     (⊎_elim
-    (λ (more : GoesOn e.at es fs xs ys). inr (inl (goes_on_behind last e es fs xs ys more)))
-    (λ (more : GoesOn e.at fs es ys xs). inr (inr (goes_on_behind last e fs es ys xs more))))
+    (λ (more : MoreEvents e.at es fs xs). inr (inl (more_behind last e es fs xs more)))
+    (λ (more : MoreEvents e.at fs es ys). inr (inr (more_behind last e fs es ys more))))
     compared)
 
-pub compared : (last : ℕ) (es fs : List Event) (xs ys : List ℕ) → AreInOrder last es → AreInOrder last fs
-    → spelling es ++ xs ≡ spelling fs ++ ys → Compared last es fs xs ys
-compared last [] [] xs ys in_es in_fs h = inl (refl, h)
-compared last [] (f ∷ fs) xs ys in_es in_fs h = inr (inl (record {
+pub compared : (last : ℕ) (es fs : List Event) (ps qs xs ys : List ℕ) → AreInOrder last es → AreInOrder last fs → SpellsAll es ps → SpellsAll fs qs
+    → ps ++ xs ≡ qs ++ ys → Compared last es fs xs ys
+compared last [] [] ps qs xs ys in_es in_fs none nothing h = inl (refl, ap (λ l. l ++ xs) (sym none) ∙ h ∙ ap (λ l. l ++ ys) nothing)
+compared last [] (f ∷ fs) ps qs xs ys in_es in_fs none there h = inr (inl (record {
   event = f;
   others = fs;
   events = refl;
   next = in_fs.0;
-  bytes = h ∙ append_assoc (spelled f) (spelling fs) ys;
+  front = there.0;
+  rest = there.1 ++ ys;
+  spelled = there.3;
+  bytes = ap (λ l. l ++ xs) (sym none) ∙ h ∙ ap (λ l. l ++ ys) there.2 ∙ append_assoc there.0 there.1 ys;
 }))
-compared last (e ∷ es) [] xs ys in_es in_fs h = inr (inr (record {
+compared last (e ∷ es) [] ps qs xs ys in_es in_fs here nothing h = inr (inr (record {
   event = e;
   others = es;
   events = refl;
   next = in_es.0;
-  bytes = sym h ∙ append_assoc (spelled e) (spelling es) xs;
+  front = here.0;
+  rest = here.1 ++ xs;
+  spelled = here.3;
+  bytes = ap (λ l. l ++ ys) (sym nothing) ∙ sym h ∙ ap (λ l. l ++ xs) here.2 ∙ append_assoc here.0 here.1 xs;
 }))
-compared last (e ∷ es) (f ∷ fs) xs ys in_es in_fs h =
-    let regrouped = sym (append_assoc (spelled e) (spelling es) xs) ∙ h ∙ append_assoc (spelled f) (spelling fs) ys in
-    let same = same_event e f (spelling es ++ xs) (spelling fs ++ ys) in_es.0.in_range in_fs.0.in_range regrouped in
+compared last (e ∷ es) (f ∷ fs) ps qs xs ys in_es in_fs here there h =
+    let regrouped = sym (append_assoc here.0 here.1 xs) ∙ ap (λ l. l ++ xs) (sym here.2) ∙ h ∙ ap (λ l. l ++ ys) there.2 ∙ append_assoc there.0 there.1 ys in
+    let same = same_event e f here.0 there.0 (here.1 ++ xs) (there.1 ++ ys) in_es.0.in_range in_fs.0.in_range here.3 there.3 regrouped in
     let P : Event → Type 0 = λ g. AreInOrder g.at fs in
-    same_head last e f es fs xs ys (sym same.0) (compared e.at es fs xs ys in_es.1 (subst P (sym same.0) in_fs.1) same.1)
+    same_head last e f es fs xs ys (sym same.0) (compared e.at es fs here.1 there.1 xs ys in_es.1 (subst P (sym same.0) in_fs.1) here.4 there.4 same.1)

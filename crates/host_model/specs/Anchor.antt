@@ -1,20 +1,34 @@
 -- The anchor: the event that the DHCP client goes by (RFC 2131, section 4.4 and figure 5).
-use Rattle.std.specs.Prelude.{ℕ, List, [], ◌∷◌}
+use Rattle.std.specs.Prelude.{ℕ, Bool, false, List, [], ◌∷◌, length, if◌then◌else◌}
+use Rattle.dhcp_client.specs.declared.retry.RetryConfig.{RetryConfig}
 use Rattle.host_model.specs.Script.{Arrival, Tick, Event}
 use Rattle.host_model.specs.Settings.{Settings}
-use Rattle.host_model.specs.History.{Entry}
+use Rattle.host_model.specs.History.{Entry, times_since}
+use Rattle.host_model.specs.Due.{loss_due}
 
 -- The client has no lease since the event at a place. The start of the script counts as place 0.
 pub data Anchor : Type 0 where
   Loss : ℕ → Anchor
 
+abbrev pub place_of : Anchor → ℕ
+place_of (Loss place) = place
+
+-- when the client sends next under an anchor, in microseconds, by the times of the messages since it, newest first
+abbrev pub due_under : RetryConfig → List ℕ → Anchor → ℕ
+due_under retry sent (Loss place) = loss_due retry sent
+
+-- time ends what the client goes by, and it begins anew: without a lease, nothing is there to end
+abbrev pub is_over : RetryConfig → List ℕ → ℕ → Anchor → Bool
+is_over retry sent at (Loss place) = false
+
 -- what an arrival makes of the anchor: a tick leaves it
 abbrev pub anchor_after_arrival : Arrival → Anchor → Anchor
 anchor_after_arrival Tick anchor = anchor
 
--- what the time of an event makes of the anchor: without a lease, time leaves it
+-- what the time of an event makes of the anchor
 abbrev pub anchor_after_time : Settings → List Entry → ℕ → Anchor → Anchor
-anchor_after_time settings before at (Loss place) = Loss place
+anchor_after_time settings before at anchor =
+    if is_over settings.client.retry (times_since (place_of anchor) before) at anchor then Loss (length before) else anchor
 
 abbrev pub anchor_after : Settings → List Entry → Event → Anchor → Anchor
 anchor_after settings before event anchor =

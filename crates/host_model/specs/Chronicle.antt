@@ -1,28 +1,39 @@
 -- What is sent in each event of a script: found from the entries before it and from the event.
-use Rattle.std.specs.Prelude.{◌≡◌, ℕ, ◌*◌, List, [], ◌∷◌, ◌++◌, Option, Some, None, length, slice_index}
+use Rattle.std.specs.Prelude.{◌≡◌, ℕ, ◌+◌, ◌*◌, List, [], ◌∷◌, ◌++◌, Option, Some, None, length, slice_index}
 use Rattle.std.specs.Option.{option_map}
+use Rattle.net_wire.specs.declared.address.EthernetAddress.{EthernetAddress}
+use Rattle.net_wire.specs.declared.address.Ipv4Address.{Ipv4Address}
+use Rattle.host_model.specs.declared.words.EventWords.{EventWords}
 use Rattle.host_model.specs.Script.{Event}
 use Rattle.host_model.specs.Settings.{Settings}
-use Rattle.host_model.specs.History.{Entry, Transmission}
+use Rattle.host_model.specs.History.{Entry, SentMessage, Transmission}
 use Rattle.host_model.specs.Named.{named_message}
 use Rattle.host_model.specs.Neighbor.{known_hop}
 
--- the first of the three words of the event at a place
-abbrev pub first_word : List ℕ → ℕ → ℕ
-first_word words place = slice_index words (3 * place)
+-- the words of the event at a place: three for each
+abbrev pub words_at : List ℕ → ℕ → EventWords
+words_at words place = record {
+  first = slice_index words (3 * place);
+  second = slice_index words (3 * place + 1);
+  third = slice_index words (3 * place + 2);
+}
 
 -- a message is sent where its hop is known; else it waits
-abbrev pub sent_by : Option Transmission → Option Transmission
-sent_by None = None
-sent_by (Some transmission) = option_map (λ hop. transmission) (known_hop transmission.destination)
+abbrev pub sent_by : (Ipv4Address → Option EthernetAddress) → Option Transmission → Option SentMessage
+sent_by hop None = None
+sent_by hop (Some transmission) = option_map (λ to. record { transmission = transmission; hop = to }) (hop transmission.destination)
 
--- the entry of an event, by the entries before it and its first word
-abbrev pub entry_of : Settings → List Entry → Event → ℕ → Entry
-entry_of settings before event word = record { event = event; word = word; sent = sent_by (named_message settings before event word) }
+-- the entry of an event, by the entries before it and its words
+abbrev pub entry_of : Settings → List Entry → Event → EventWords → Entry
+entry_of settings before event words = record {
+  event = event;
+  words = words;
+  sent = sent_by (known_hop settings before event) (named_message settings before event words);
+}
 
 -- the entry of the next event of a run with these words
 abbrev pub entry_at : Settings → List ℕ → List Entry → Event → Entry
-entry_at settings words before event = entry_of settings before event (first_word words (length before))
+entry_at settings words before event = entry_of settings before event (words_at words (length before))
 
 -- the entries after more events, newest first
 abbrev pub history_from : Settings → List ℕ → List Entry → List Event → List Entry

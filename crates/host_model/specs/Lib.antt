@@ -1,9 +1,11 @@
 pub mod Anchor
 pub mod Chronicle
+pub mod Classes
 pub mod Due
 pub mod History
 pub mod Lease
 pub mod Named
 pub mod Neighbor
+pub mod Parts
 pub mod Script
 pub mod Settings

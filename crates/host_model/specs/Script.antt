@@ -1,6 +1,5 @@
 -- The script: a list of events in the order of their times, as docs/FORMATS.md lays it out. Numbers are big-endian.
-use Rattle.std.specs.Prelude.{◌≡◌, ℕ, ◌*◌, ◌^◌, ◌<◌, ◌≤◌, List, [], ◌∷◌, ◌++◌, length, ⊤}
-use Rattle.std.specs.List.{flat_map}
+use Rattle.std.specs.Prelude.{◌≡◌, ℕ, ◌*◌, ◌^◌, ◌<◌, ◌≤◌, List, [], ◌∷◌, ◌++◌, ⊤}
 use Rattle.std.specs.Int.{to_be_bytes, w64}
 
 -- what an event brings
@@ -16,20 +15,29 @@ pub record Event : Type 0 where
 abbrev pub kind_byte : Arrival → ℕ
 kind_byte Tick = 2
 
--- the bytes behind the time
-abbrev pub rest_bytes : Arrival → List ℕ
-rest_bytes Tick = []
+-- the bytes behind the time spell what the event brings
+abbrev pub SpellsArrival : Arrival → List ℕ → Type 0
+SpellsArrival Tick rest = rest ≡ []
 
 -- what can be spelled: lengths and texts in their ranges
 abbrev pub IsArrival : Arrival → Type 0
 IsArrival Tick = ⊤
 
--- an event on the script: kind, time, rest
-abbrev pub spelled : Event → List ℕ
-spelled event = kind_byte event.arrival ∷ [] ++ to_be_bytes w64 event.at ++ rest_bytes event.arrival
+-- the kind and the time
+abbrev pub head_bytes : Arrival → ℕ → List ℕ
+head_bytes arrival at = kind_byte arrival ∷ [] ++ to_be_bytes w64 at
 
-abbrev pub spelling : List Event → List ℕ
-spelling events = flat_map spelled events
+-- The bytes spell the event: its kind, its time, and what it brings.
+pub record Spells (event : Event) (bytes : List ℕ) : Type 0 where
+  pub rest : List ℕ
+  pub brings : SpellsArrival event.arrival rest
+  pub whole : bytes ≡ head_bytes event.arrival event.at ++ rest
+
+-- The bytes spell the events, one behind the other, and nothing else.
+abbrev pub SpellsAll : List Event → List ℕ → Type 0
+SpellsAll [] bytes = bytes ≡ []
+SpellsAll (event ∷ events) bytes =
+    (front : List ℕ) × (rest : List ℕ) × (bytes ≡ front ++ rest) × Spells event front × SpellsAll events rest
 
 -- 2^32 seconds in microseconds: times lie below it
 abbrev pub time_limit : ℕ
@@ -51,40 +59,13 @@ abbrev pub last_time : ℕ → List Event → ℕ
 last_time last [] = last
 last_time last (event ∷ events) = last_time event.at events
 
--- The bytes are a script of these events: at most `max` events and nothing else.
-pub record IsScript (max : ℕ) (bytes : List ℕ) (events : List Event) : Type 0 where
-  pub in_order : AreInOrder 0 events
-  pub few : length events ≤ max
-  pub whole : bytes ≡ spelling events
+-- no front of the bytes is an event that may follow one at the time `last`
+abbrev pub BeginsNoEvent : ℕ → List ℕ → Type 0
+BeginsNoEvent last bytes =
+    (event : Event) (front rest : List ℕ) → IsNext last event → Spells event front → bytes ≡ front ++ rest → ⊥
 
-abbrev pub IsValidScript : ℕ → List ℕ → Type 0
-IsValidScript max bytes = (events : List Event) × IsScript max bytes events
-
--- The bytes are `max` events and at least one byte more.
-pub record IsOverLimit (max : ℕ) (bytes : List ℕ) : Type 0 where
-  pub events : List Event
-  pub more : List ℕ
-  pub in_order : AreInOrder 0 events
-  pub full : length events ≡ max
-  pub goes_on : 0 < length more
-  pub whole : bytes ≡ spelling events ++ more
-
--- The bytes are fewer than `max` events, of together `offset` bytes, and then at least one byte; no front of what follows
--- is a next event.
-pub record IsBrokenAt (max : ℕ) (bytes : List ℕ) (offset : ℕ) : Type 0 where
-  pub events : List Event
-  pub more : List ℕ
-  pub in_order : AreInOrder 0 events
-  pub few : length events < max
-  pub goes_on : 0 < length more
-  pub whole : bytes ≡ spelling events ++ more
-  pub place : offset ≡ length (spelling events)
-  pub no_event : (event : Event) (rest : List ℕ) → IsNext (last_time 0 events) event → more ≡ spelled event ++ rest → ⊥
-
--- no bytes are in two of the classes, valid for two lists of events, or broken at two places
-pub record IsOneOfThree : Type 0 where
-  pub not_over : (max : ℕ) (bytes : List ℕ) → IsValidScript max bytes → IsOverLimit max bytes → ⊥
-  pub not_broken : (max : ℕ) (bytes : List ℕ) (offset : ℕ) → IsValidScript max bytes → IsBrokenAt max bytes offset → ⊥
-  pub over_or_broken : (max : ℕ) (bytes : List ℕ) (offset : ℕ) → IsOverLimit max bytes → IsBrokenAt max bytes offset → ⊥
-  pub one_script : (max : ℕ) (bytes : List ℕ) (events others : List Event) → IsScript max bytes events → IsScript max bytes others → events ≡ others
-  pub one_place : (max : ℕ) (bytes : List ℕ) (here there : ℕ) → IsBrokenAt max bytes here → IsBrokenAt max bytes there → here ≡ there
+-- Bytes begin with one event at most: those of two next events are one event's, and the same bytes follow.
+abbrev pub BeginsWithOne : Type 0
+BeginsWithOne = (bytes : List ℕ) (one other : Event) (front rest begin more : List ℕ)
+    → one.at < time_limit → other.at < time_limit → Spells one front → Spells other begin
+    → bytes ≡ front ++ rest → bytes ≡ begin ++ more → (one ≡ other) × (rest ≡ more)

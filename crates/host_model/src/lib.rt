@@ -3,3 +3,6 @@
 #![tactic(auto)]
 
 pub mod laws;
+pub mod words;
+
+pub use words::EventWords;

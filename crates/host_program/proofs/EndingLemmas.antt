@@ -1,20 +1,21 @@
 -- What the status says of how a command ended.
-use Rattle.std.proofs.Common.{◌≡◌, ℕ, ◌*◌, List, [], ◌++◌, length, append-nil, Option, Some, None, Result, Ok, Err, IfSome, inl, inr, refl, sym, arith}
-use Rattle.wire_base.specs.Causes.{IsRisen, AppendsFront}
-use Rattle.host_model.specs.Script.{Event, spelling, IsScript, IsBrokenAt, IsOverLimit}
-use Rattle.host_model.specs.Settings.{Settings}
+use Rattle.std.proofs.Common.{◌≡◌, ℕ, ◌*◌, List, length, Option, Some, None, Result, Ok, Err, IfSome, inl, inr, refl, arith}
+use Rattle.wire_base.specs.Causes.{IsRisen}
+use Rattle.host_model.specs.Script.{Event}
+use Rattle.host_model.specs.Classes.{IsScript, IsBrokenAt, IsOverLimit}
 use Rattle.host_model.proofs.ClassLemmas.{not_over, not_broken, over_or_broken}
 use Rattle.phy_layers.specs.declared.byte_sink.SinkError.{SinkError}
 use Rattle.phy_layers.specs.declared.byte_sink.SinkError.TheVariants as sink
 use Rattle.net_host.specs.declared.report.Row.{Row}
-use Rattle.net_host.specs.Run.{Interrupted, RanOut}
-use Rattle.net_host.specs.Rows.{AreRows}
+use Rattle.net_host.specs.Outside.{Outside}
+use Rattle.net_host.specs.Run.{Task, HasFewWords}
+use Rattle.host_program.specs.declared.command.Command.{Command}
 use Rattle.host_program.specs.declared.command.Command.TheVariants.{Run}
 use Rattle.host_program.specs.declared.ending.Ending.{Ending}
 use Rattle.host_program.specs.declared.ending.Ending.TheVariants.{Done, Refused, Script, Limit, Read, Capture, NoMemory}
 use Rattle.host_program.specs.Command.{IsTaken}
-use Rattle.host_program.specs.Ending.{status_after}
-use Rattle.host_program.specs.HostMain.{Outside, ForNamedRun, ComesExactly, IsComplete, HasEnded}
+use Rattle.host_program.specs.Ending.{status_of, status_after}
+use Rattle.host_program.specs.HostMain.{ForNamed, ComesExactly, IsStatusOf, IsComplete, EndedAs, HasEnded}
 
 -- how a command ended, what the output answered, and the status
 pub record Answered (words : List (List ℕ)) (before after : Outside) (report : List Row) (ending : Ending)
@@ -31,7 +32,7 @@ refused_at words before after report ending (Err sink.Fault) result ended is =
 refused_at words before after report ending (Err sink.NoMemory) result ended is =
     record { only = λ one. absurd (omega arith); always = λ _. inr (inr is) }
 refused_at words before after report ending (Ok _) result ended is =
-    record { only = λ one. absurd (omega arith); always = λ none. absurd (none (Run ended.0, ended.1)) }
+    record { only = λ one. absurd (omega arith); always = λ none. absurd (none (ended.0, ended.1)) }
 
 pub refused_exactly : {words : List (List ℕ)} {before after : Outside} {report : List Row} {ending : Ending} {answer : Result (Unit {0}) SinkError} {result : ℕ}
     → Answered words before after report ending answer result → ComesExactly 1 (IsTaken words → ⊥) result
@@ -39,12 +40,12 @@ refused_exactly {words} {before} {after} {report} {ending} {answer} {result} how
     refused_at words before after report ending answer result how.ended how.status
 
 -- the status that the class of a script asks for
-no_memory : (left : Option (List ℕ)) (max result : ℕ) → result ≡ 7 → IfSome left (IsComplete max result)
+no_memory : (left : Option (List ℕ)) (max result : ℕ) → result ≡ 7 → IfSome left (IsStatusOf max result)
 no_memory None max result is = tt
 no_memory (Some bytes) max result is = record { valid = λ _. inr is; broken = λ _ _. inr is; over = λ _. inr is }
 
 valid_script : (left : Option (List ℕ)) (max : ℕ) (events : List Event) (result : ℕ)
-    → IfSome left (λ bytes. IsScript max bytes events) → result ≡ 0 → IfSome left (IsComplete max result)
+    → IfSome left (λ bytes. IsScript max bytes events) → result ≡ 0 → IfSome left (IsStatusOf max result)
 valid_script None max events result script is = tt
 valid_script (Some bytes) max events result script is = record {
   valid = λ _. inl is;
@@ -53,7 +54,7 @@ valid_script (Some bytes) max events result script is = record {
 }
 
 broken_script : (left : Option (List ℕ)) (max offset result : ℕ)
-    → IfSome left (λ bytes. IsBrokenAt max bytes offset) → result ≡ 2 → IfSome left (IsComplete max result)
+    → IfSome left (λ bytes. IsBrokenAt max bytes offset) → result ≡ 2 → IfSome left (IsStatusOf max result)
 broken_script None max offset result broken is = tt
 broken_script (Some bytes) max offset result broken is = record {
   valid = λ valid. absurd (not_broken max bytes offset valid.0 valid.1 broken);
@@ -62,7 +63,7 @@ broken_script (Some bytes) max offset result broken is = record {
 }
 
 long_script : (left : Option (List ℕ)) (max result : ℕ)
-    → IfSome left (IsOverLimit max) → result ≡ 3 → IfSome left (IsComplete max result)
+    → IfSome left (IsOverLimit max) → result ≡ 3 → IfSome left (IsStatusOf max result)
 long_script None max result over is = tt
 long_script (Some bytes) max result over is = record {
   valid = λ valid. absurd (not_over max bytes valid.0 valid.1 over);
@@ -70,55 +71,41 @@ long_script (Some bytes) max result over is = record {
   over = λ _. inl is;
 }
 
+complete_of : (command : Command) (before after : Outside) (report : List Row) (ending : Ending) (result : ℕ)
+    → EndedAs command before after report ending → result ≡ status_of ending
+    → (IsRisen before.read_faults after.read_faults → ⊥) → (IsRisen before.capture_faults after.capture_faults → ⊥)
+    → IsComplete command before result
+complete_of (Run run) before after report Done result ended is read capture =
+    valid_script before.left run.max_events ended.0.events result ended.0.script is
+complete_of (Run run) before after report Refused result ended is read capture = absurd ended
+complete_of (Run run) before after report (Script offset) result ended is read capture =
+    broken_script before.left run.max_events offset result ended.1.0 is
+complete_of (Run run) before after report Limit result ended is read capture = long_script before.left run.max_events result ended.1.0 is
+complete_of (Run run) before after report Read result ended is read capture = absurd (read ended.1.0)
+complete_of (Run run) before after report Capture result ended is read capture = absurd (capture ended.1.0)
+complete_of (Run run) before after report NoMemory result ended is read capture = no_memory before.left run.max_events result is
+
+complete_at_7 : (command : Command) (before : Outside) (result : ℕ) → result ≡ 7 → IsComplete command before result
+complete_at_7 (Run run) before result is = no_memory before.left run.max_events result is
+
 complete_at : (words : List (List ℕ)) (before after : Outside) (report : List Row) (ending : Ending)
     (answer : Result (Unit {0}) SinkError) (result : ℕ) → HasEnded words before after report ending → result ≡ status_after ending answer
     → IsTaken words → (IsRisen before.read_faults after.read_faults → ⊥) → (IsRisen before.capture_faults after.capture_faults → ⊥)
-    → (answer ≡ Err sink.Fault → ⊥) → ForNamedRun words (λ run. IfSome before.left (IsComplete run.max_events result))
+    → (answer ≡ Err sink.Fault → ⊥) → ForNamed words (λ command. IsComplete command before result)
 complete_at words before after report Refused answer result ended is taken read capture output = absurd (ended taken)
 complete_at words before after report ending (Err sink.Fault) result ended is taken read capture output = absurd (output refl)
 complete_at words before after report ending (Err sink.NoMemory) result ended is taken read capture output =
-    (ended.0, ended.1, no_memory before.left ended.0.max_events result is)
-complete_at words before after report Done (Ok _) result ended is taken read capture output =
-    (ended.0, ended.1, valid_script before.left ended.0.max_events ended.2.0.events result ended.2.0.script is)
-complete_at words before after report (Script offset) (Ok _) result ended is taken read capture output =
-    (ended.0, ended.1, broken_script before.left ended.0.max_events offset result ended.2.1 is)
-complete_at words before after report Limit (Ok _) result ended is taken read capture output =
-    (ended.0, ended.1, long_script before.left ended.0.max_events result ended.2.1 is)
-complete_at words before after report Read (Ok _) result ended is taken read capture output = absurd (read ended.2.1)
-complete_at words before after report Capture (Ok _) result ended is taken read capture output = absurd (capture ended.2.1)
-complete_at words before after report NoMemory (Ok _) result ended is taken read capture output =
-    (ended.0, ended.1, no_memory before.left ended.0.max_events result is)
+    (ended.0, ended.1, complete_at_7 ended.0 before result is)
+complete_at words before after report ending (Ok _) result ended is taken read capture output =
+    (ended.0, ended.1, complete_of ended.0 before after report ending result ended.2 is read capture)
 
 pub complete_named : {words : List (List ℕ)} {before after : Outside} {report : List Row} {ending : Ending} {answer : Result (Unit {0}) SinkError} {result : ℕ}
     → Answered words before after report ending answer result → IsTaken words
     → (IsRisen before.read_faults after.read_faults → ⊥) → (IsRisen before.capture_faults after.capture_faults → ⊥)
-    → (answer ≡ Err sink.Fault → ⊥) → ForNamedRun words (λ run. IfSome before.left (IsComplete run.max_events result))
+    → (answer ≡ Err sink.Fault → ⊥) → ForNamed words (λ command. IsComplete command before result)
 complete_named {words} {before} {after} {report} {ending} {answer} {result} how =
     complete_at words before after report ending answer result how.ended how.status
 
--- before a run began nothing was done
-nothing_read : (left : Option (List ℕ)) → IfSome left (λ bytes. (more : List ℕ) × (bytes ≡ spelling [] ++ more))
-nothing_read None = tt
-nothing_read (Some bytes) = (bytes, refl)
-
-nothing_captured : (captured : Option (List ℕ)) (bytes : List ℕ) → AppendsFront captured captured bytes
-nothing_captured None bytes = tt
-nothing_captured (Some taken) bytes = ([], bytes, refl, sym (append-nil taken))
-
-no_rows : (settings : Settings) (words : List ℕ) (report : List Row) → report ≡ [] → AreRows settings words [] report
-no_rows settings words report is = rw is tt
-
-pub nothing_run : (settings : Settings) (words : List ℕ) (max : ℕ) (left captured : Option (List ℕ)) (report : List Row) → report ≡ []
-    → Interrupted settings words max left captured captured report
-nothing_run settings words max left captured report is = record {
-  events = [];
-  read = nothing_read left;
-  in_order = tt;
-  few = omega arith;
-  rows = inl (no_rows settings words report is);
-  captured = nothing_captured captured _;
-}
-
 -- three words for each event are enough
-pub never_short : (words : List ℕ) (max : ℕ) (left : Option (List ℕ)) → length words ≡ max * 3 → RanOut words max left → ⊥
-never_short words max left counted out = omega (arith, out.short, out.few, counted)
+pub never_short : (task : Task) (before : Outside) → length task.words ≡ task.max * 3 → HasFewWords task before → ⊥
+never_short task before counted out = omega (arith, out.short, out.few, counted)

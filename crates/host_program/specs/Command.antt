@@ -1,9 +1,9 @@
 -- The words that the program takes, and what they name. A word is seen as its bytes.
-use Rattle.std.specs.Prelude.{◌≡◌, ℕ, ◌%◌, ◌^◌, ◌<◌, ◌≤◌, List, [], ◌∷◌, length, drop, slice_index, codes, false, None}
+use Rattle.std.specs.Prelude.{◌≡◌, ℕ, ◌%◌, ◌^◌, ◌<◌, ◌≤◌, List, [], ◌∷◌, length, drop, slice_index, codes}
 use Rattle.std.specs.Int.{to_be_bytes, w64}
 use Rattle.std.specs.Str.Parse.{IsNumeral, digits_value}
 use Rattle.net_wire.specs.declared.address.EthernetAddress.{EthernetAddress}
-use Rattle.dhcp_client.specs.Retry.{default_retry}
+use Rattle.dhcp_client.specs.Config.{default_settings}
 use Rattle.host_model.specs.Settings.{Settings}
 use Rattle.host_program.specs.declared.command.Command.{Command}
 use Rattle.host_program.specs.declared.command.Command.TheVariants.{Run}
@@ -58,16 +58,10 @@ pub record IsRunnable (run : RunCommand) : Type 0 where
   pub some : 1 ≤ run.max_events
   pub limit : run.max_events ≤ 10000
 
--- the settings of a host to which only its hardware address was told
-abbrev pub settings_named : EthernetAddress → Settings
-settings_named hardware = record {
-  hardware = hardware;
+-- the settings of the host of a run, to which only its hardware address was told
+abbrev pub settings_named : RunCommand → Settings
+settings_named run = record {
+  hardware = run.hardware;
   ip_mtu = 1500;
-  retry = default_retry;
-  server_port = 67;
-  client_port = 68;
-  max_lease = None;
-  ignore_naks = false;
-  parameters = 1 ∷ 3 ∷ 6 ∷ [];
-  options = [];
+  client = default_settings;
 }

@@ -1,13 +1,15 @@
 -- What the program does, by the words, the script and what the outside tells.
-use Rattle.std.specs.Prelude.{◌≡◌, ℕ, ◌⊎◌, List, ◌++◌, Option, Result, IfSome}
-use Rattle.wire_base.specs.Causes.{IsRisen}
+use Rattle.std.specs.Prelude.{◌≡◌, ℕ, ◌⊎◌, List, ◌++◌, Result, IfSome}
 use Rattle.phy_layers.specs.declared.byte_sink.ByteSink as byte_sink
 use Rattle.phy_layers.specs.declared.byte_sink.SinkError.{SinkError}
 use Rattle.phy_layers.specs.Sink.{Took}
-use Rattle.host_model.specs.Script.{IsValidScript, IsBrokenAt, IsOverLimit}
-use Rattle.net_host.specs.declared.source.ScriptSource as script_source
+use Rattle.host_model.specs.Classes.{IsValidScript, IsBrokenAt, IsOverLimit}
 use Rattle.net_host.specs.declared.report.Row.{Row}
-use Rattle.net_host.specs.Run.{Finished, Stopped, Interrupted}
+use Rattle.net_host.specs.declared.run_script.RunError.{RunError}
+use Rattle.net_host.specs.declared.run_script.RunError.TheVariants as run_error
+use Rattle.net_host.specs.Outside.{Outside, IsQuiet}
+use Rattle.net_host.specs.Run.{Task, task_of, Finished, Leaves, HasCause}
+use Rattle.host_program.specs.declared.command.Command.{Command}
 use Rattle.host_program.specs.declared.command.Command.TheVariants.{Run}
 use Rattle.host_program.specs.declared.command.RunCommand.{RunCommand}
 use Rattle.host_program.specs.declared.ending.Ending.{Ending}
@@ -17,24 +19,9 @@ use Rattle.host_program.specs.Generator.{event_words}
 use Rattle.host_program.specs.Ending.{status_after, last_line}
 use Rattle.host_program.specs.ReportText.{report_bytes}
 
--- what the script and the capture tell: the bytes still to come, the bytes taken, and the counts of faults
-pub record Outside : Type 0 where
-  pub left : Option (List ℕ)
-  pub read_faults : ℕ
-  pub captured : Option (List ℕ)
-  pub capture_faults : ℕ
-
-abbrev pub outside_of : {S C : Type 0} → script_source.Ghosts S → byte_sink.Ghosts C → S → C → Outside
-outside_of source sink script capture = record {
-  left = source.left script;
-  read_faults = source.faults script;
-  captured = sink.bytes capture;
-  capture_faults = sink.faults capture;
-}
-
--- the words name a run of which the fact holds
-abbrev pub ForNamedRun : List (List ℕ) → (RunCommand → Type 0) → Type 0
-ForNamedRun words P = (run : RunCommand) × Names words (Run run) × P run
+-- the words name a command of which the fact holds
+abbrev pub ForNamed : List (List ℕ) → (Command → Type 0) → Type 0
+ForNamed words P = (command : Command) × Names words command × P command
 
 -- the status is this one, or a fault of the output or want of memory replaced it
 abbrev pub IsUnlessReplaced : ℕ → ℕ → Type 0
@@ -49,40 +36,61 @@ pub record ComesExactly (status : ℕ) (P : Type 0) (result : ℕ) : Type 0 wher
 abbrev pub IsUnlessNoMemory : ℕ → ℕ → Type 0
 IsUnlessNoMemory status result = (result ≡ status) ⊎ (result ≡ 7)
 
--- the status by the bytes of the script
-pub record IsComplete (max result : ℕ) (bytes : List ℕ) : Type 0 where
+-- the status of a run by the bytes of its script
+pub record IsStatusOf (max result : ℕ) (bytes : List ℕ) : Type 0 where
   pub valid : IsValidScript max bytes → IsUnlessNoMemory 0 result
   pub broken : (offset : ℕ) → IsBrokenAt max bytes offset → IsUnlessNoMemory 2 result
   pub over : IsOverLimit max bytes → IsUnlessNoMemory 3 result
 
--- What the run of the words left when it ended so, and why it did.
+-- what a run is told that was named so
+abbrev pub task_named : RunCommand → Task
+task_named run = task_of (settings_named run) (event_words run) run.max_events
+
+-- the run answered so, with what it left and why
+abbrev pub Ran : RunCommand → Outside → Outside → List Row → RunError → Type 0
+Ran run before after report error =
+    Leaves (task_named run) before after report error × HasCause (task_named run) before after error
+
+-- What the run of the words left when it ended so, and why it did. There are words enough for each event.
 abbrev pub RanTo : RunCommand → Outside → Outside → List Row → Ending → Type 0
-RanTo run before after report Done =
-    Finished (settings_named run.hardware) (event_words run) run.max_events before.left after.left before.captured after.captured report
-    × (after.read_faults ≡ before.read_faults) × (after.capture_faults ≡ before.capture_faults)
+RanTo run before after report Done = Finished (task_named run) before after report × IsQuiet before after
 RanTo run before after report Refused = ⊥
-RanTo run before after report (Script offset) =
-    Stopped (settings_named run.hardware) (event_words run) run.max_events before.left before.captured after.captured report
-    × IfSome before.left (λ bytes. IsBrokenAt run.max_events bytes offset)
-RanTo run before after report Limit =
-    Stopped (settings_named run.hardware) (event_words run) run.max_events before.left before.captured after.captured report
-    × IfSome before.left (IsOverLimit run.max_events)
-RanTo run before after report Read =
-    Stopped (settings_named run.hardware) (event_words run) run.max_events before.left before.captured after.captured report
-    × IsRisen before.read_faults after.read_faults
-RanTo run before after report Capture =
-    Interrupted (settings_named run.hardware) (event_words run) run.max_events before.left before.captured after.captured report
-    × IsRisen before.capture_faults after.capture_faults
-RanTo run before after report NoMemory =
-    Interrupted (settings_named run.hardware) (event_words run) run.max_events before.left before.captured after.captured report
+RanTo run before after report (Script offset) = Ran run before after report (run_error.Script offset)
+RanTo run before after report Limit = Ran run before after report run_error.Limit
+RanTo run before after report Read = Ran run before after report run_error.Read
+RanTo run before after report Capture = Ran run before after report run_error.Sink
+RanTo run before after report NoMemory = Ran run before after report run_error.NoMemory
+
+-- What a command left when it ended so, and why it did.
+abbrev pub EndedAs : Command → Outside → Outside → List Row → Ending → Type 0
+EndedAs (Run run) before after report ending = RanTo run before after report ending
+
+-- what a command left that was done
+abbrev pub IsDone : Command → Outside → Outside → List Row → Type 0
+IsDone (Run run) before after report = Finished (task_named run) before after report
+
+-- the script of a command is broken
+abbrev pub HasBrokenScript : Command → Outside → Type 0
+HasBrokenScript (Run run) before =
+    IfSome before.left (λ bytes. (offset : ℕ) × IsBrokenAt run.max_events bytes offset)
+
+-- the script of a command is over the limit
+abbrev pub HasLongScript : Command → Outside → Type 0
+HasLongScript (Run run) before = IfSome before.left (IsOverLimit run.max_events)
+
+-- the status of a command that no fault of the outside stopped
+abbrev pub IsComplete : Command → Outside → ℕ → Type 0
+IsComplete (Run run) before result = IfSome before.left (IsStatusOf run.max_events result)
 
 -- How the command of the words ended: where they are refused there is none.
 abbrev pub HasEnded : List (List ℕ) → Outside → Outside → List Row → Ending → Type 0
 HasEnded words before after report Refused = IsTaken words → ⊥
-HasEnded words before after report ending = ForNamedRun words (λ run. RanTo run before after report ending)
+HasEnded words before after report ending =
+    ForNamed words (λ command. EndedAs command before after report ending)
 
 -- The text of the report and the last line were handed to the output, which decides on the status beside the ending.
-pub record Prints {O : Type 0} (sink : byte_sink.Ghosts O) (ending : Ending) (report : List Row) (result : ℕ) (old new : O) : Type 0 where
+pub record Prints {O : Type 0} (sink : byte_sink.Ghosts O) (ending : Ending) (report : List Row)
+    (result : ℕ) (old new : O) : Type 0 where
   pub answer : Result (Unit {0}) SinkError
   pub status : result ≡ status_after ending answer
   pub took : Took sink.bytes sink.faults sink.grows answer (report_bytes report ++ last_line ending) old new

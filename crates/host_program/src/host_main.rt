@@ -1,14 +1,12 @@
 //! The program as a function: words and a script in; a capture, a report and its text out.
-ghost use Rattle.std.specs.Prelude.{◌≡◌, ℕ, [], ◌++◌, map, string_bytes, IfSome};
+ghost use Rattle.std.specs.Prelude.{◌≡◌, [], ◌++◌, map, string_bytes};
 ghost use Rattle.wire_base.specs.Causes.{IsRisen};
 ghost use Rattle.phy_layers.specs.Sink.{Took};
-ghost use Rattle.host_model.specs.Script.{IsBrokenAt, IsOverLimit};
 ghost use Rattle.net_host.specs.Config.{HasGroupAddress};
-ghost use Rattle.net_host.specs.Run.{Finished};
+ghost use Rattle.net_host.specs.Outside.{outside_of};
 ghost use Rattle.host_program.specs.Command.{IsTaken, IsRunnable, settings_named};
 ghost use Rattle.host_program.specs.Ending.{last_line};
-ghost use Rattle.host_program.specs.Generator.{event_words};
-ghost use Rattle.host_program.specs.HostMain.{outside_of, ForNamedRun, ComesExactly, IsComplete, HasEnded, RanTo, Prints};
+ghost use Rattle.host_program.specs.HostMain.{ForNamed, ComesExactly, IsDone, HasBrokenScript, HasLongScript, IsComplete, HasEnded, RanTo, Prints};
 ghost use Rattle.host_program.specs.ReportText.{report_bytes};
 
 use crate::command::{Command, RunCommand, parse};
@@ -18,7 +16,6 @@ use crate::report_text::report_text;
 use crate::text::flush;
 use dhcp_client::RetryConfig;
 use net_host::{HostConfig, HostValues, Report, RunError, ScriptSource, run};
-use net_wire::EthernetAddress;
 use phy_layers::{ByteSink, PcapSink, SinkError};
 use std::alloc::Global;
 
@@ -38,18 +35,18 @@ pub fn host_main<S: ScriptSource, C: PcapSink, O: ByteSink>(
     ensures untouched { (IsTaken (map string_bytes args.now) → ⊥)
         → (script.new ≡ script.old) × (capture.new ≡ capture.old) × (report.new ≡ []) }
 
-    // 0: the run that the words name ended well, and no count of faults changed.
-    ensures done { result ≡ 0 → ForNamedRun (map string_bytes args.now) (λ run.
-        Finished (settings_named run.hardware) (event_words run) run.max_events (S.left script.old)
-        (S.left script.new) (C.bytes capture.old) (C.bytes capture.new) report.new) }
+    // 0: the command that the words name is done, and no count of faults changed.
+    ensures done { result ≡ 0 → ForNamed (map string_bytes args.now) (λ command. IsDone command
+        (outside_of S.ScriptSource C.ByteSink script.old capture.old)
+        (outside_of S.ScriptSource C.ByteSink script.new capture.new) report.new) }
     ensures quiet { result ≡ 0 → (S.faults script.new ≡ S.faults script.old)
         × (C.faults capture.new ≡ C.faults capture.old) × (O.faults out.new ≡ O.faults out.old) }
 
     // The other statuses have causes, but for want of memory.
-    ensures broken { result ≡ 2 → ForNamedRun (map string_bytes args.now) (λ run.
-        IfSome (S.left script.old) (λ bytes. (offset : ℕ) × IsBrokenAt run.max_events bytes offset)) }
-    ensures limit { result ≡ 3 → ForNamedRun (map string_bytes args.now) (λ run.
-        IfSome (S.left script.old) (IsOverLimit run.max_events)) }
+    ensures broken { result ≡ 2 → ForNamed (map string_bytes args.now) (λ command.
+        HasBrokenScript command (outside_of S.ScriptSource C.ByteSink script.old capture.old)) }
+    ensures limit { result ≡ 3 → ForNamed (map string_bytes args.now) (λ command.
+        HasLongScript command (outside_of S.ScriptSource C.ByteSink script.old capture.old)) }
     ensures read { result ≡ 4 → IsRisen (S.faults script.old) (S.faults script.new) }
     ensures capture { result ≡ 5 → IsRisen (C.faults capture.old) (C.faults capture.new) }
     ensures output { result ≡ 6 → IsRisen (O.faults out.old) (O.faults out.new) }
@@ -59,8 +56,8 @@ pub fn host_main<S: ScriptSource, C: PcapSink, O: ByteSink>(
         → (IsRisen (S.faults script.old) (S.faults script.new) → ⊥)
         → (IsRisen (C.faults capture.old) (C.faults capture.new) → ⊥)
         → (IsRisen (O.faults out.old) (O.faults out.new) → ⊥)
-        → ForNamedRun (map string_bytes args.now) (λ run.
-        IfSome (S.left script.old) (IsComplete run.max_events result)) }
+        → ForNamed (map string_bytes args.now) (λ command.
+        IsComplete command (outside_of S.ScriptSource C.ByteSink script.old capture.old) result) }
 
     // Whatever the status: how the command ended, with what it left, and the text of that.
     ensures ended { (ending : Ending) × HasEnded (map string_bytes args.now)
@@ -111,7 +108,7 @@ fn run_script<S: ScriptSource, C: PcapSink>(
     let Ok(words) = words_of(alloc, command.seed, command.max_events as usize * 3) else {
         return Ending::NoMemory;
     };
-    let config = config_of(command.hardware);
+    let config = config_of(command);
     let max_events = command.max_events;
     match run(
         alloc,
@@ -134,13 +131,13 @@ fn run_script<S: ScriptSource, C: PcapSink>(
     }
 }
 
-/// The configuration of a host to which only its hardware address was told.
-fn config_of(hardware: EthernetAddress) -> HostConfig<'static>
-    requires { HasGroupAddress hardware → ⊥ }
-    ensures { result ≡ settings_named hardware }
+/// The configuration of the host of a run.
+fn config_of(command: &RunCommand) -> HostConfig<'static>
+    requires { HasGroupAddress command.now.hardware → ⊥ }
+    ensures { result ≡ settings_named command.now }
 {
     let values = HostValues {
-        hardware,
+        hardware: command.hardware,
         ip_mtu: 1500,
         retry: RetryConfig::default(),
         server_port: 67,

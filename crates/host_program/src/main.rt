@@ -8,6 +8,7 @@ pub mod ending;
 pub mod generator;
 pub mod host_main;
 mod lazy_file;
+mod output;
 pub mod report_text;
 #[cfg(test)]
 mod tests;
@@ -19,6 +20,7 @@ use host_main::host_main;
 use lazy_file::LazyFile;
 use net_host::{ReadSource, Report};
 use net_wire::NoMemory;
+use output::Output;
 use phy_layers::WriteSink;
 use std::env;
 use std::io::{BufReader, BufWriter, ErrorKind};
@@ -35,7 +37,7 @@ fn main(rt: HostRuntime) -> ExitCode {
     let Ok(input) = BufReader::new(rt.alloc(), rt.stdin()) else {
         return no_memory;
     };
-    let Ok(output) = BufWriter::new(rt.alloc(), rt.stdout()) else {
+    let Ok(output) = BufWriter::new(rt.alloc(), Output::new(rt.stdout())) else {
         return no_memory;
     };
     let Some(mut capture) = CaptureFile::new(rt.alloc(), LazyFile::new(&rt, CAPTURE)) else {
@@ -66,5 +68,19 @@ fn program_words<R: Env + AllocGlobal>(rt: &R) -> Result<Vec<String>, NoMemory> 
                 Ok(Vec::new(rt.alloc()))
             }
         }
+    }
+}
+
+#[cfg(test)]
+mod main_tests {
+    use super::*;
+    use std::test::Fail;
+
+    #[test]
+    fn the_name_is_no_word(rt: HostRuntime) -> Result<(), Fail> {
+        let all = env::args(&rt)?.count();
+        let words = program_words(&rt)?;
+        assert_eq!(rt; words.len(), all.saturating_sub(1));
+        Ok(())
     }
 }

@@ -27,6 +27,13 @@ module _ {K V : Type 0} (compare : K → Ordering) where
   found_place (Some e ∷ places) zero found = (e, refl)
   found_place (Some e ∷ places) (suc at) found = found_place places at (record { in_range = omega (arith, found.in_range); above = found.above.1; here = found.here })
 
+  -- whatever is read where there is no place
+  pub found_default : (places : List (Option (K × V))) (at : ℕ) (other : Option (K × V)) → IsFoundAt compare (filled places) at → get_or places at other ≡ get_or places at None
+  found_default [] at other found = absurd (omega (arith, found.in_range))
+  found_default (None ∷ places) at other found = absurd (omega (arith, found.in_range))
+  found_default (Some e ∷ places) zero other found = refl
+  found_default (Some e ∷ places) (suc at) other found = found_default places at other (record { in_range = omega (arith, found.in_range); above = found.above.1; here = found.here })
+
 module _ {K V : Type 0} {cmp : K → K → Ordering} (total : IsTotalOrder cmp) (key : K) where
   value_past : (es : List (K × V)) (x : K) → cmp key x ≡ Less → AllByRecursion (λ y. cmp x y ≡ Less) (keys_of es) → value_at cmp es key ≡ None
   value_past [] x less below = refl

@@ -17,3 +17,4 @@ pub mod JoinedLoans
 pub mod PlaceLoans
 pub mod MapWrites
 pub mod LiveLemmas
+pub mod UpdateLemmas

@@ -11,3 +11,4 @@ pub mod MapLoans
 pub mod WalkLoans
 pub mod Walk
 pub mod Elements
+pub mod Updates

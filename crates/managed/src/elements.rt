@@ -1,5 +1,8 @@
 //! The lists that a slot map keeps.
-ghost use Rattle.std.specs.Prelude.{◌≡◌, slice_set};
+ghost use Rattle.std.specs.Prelude.{◌≡◌, ◌<◌, length, slice_get, slice_set};
+ghost use Rattle.std.specs.Fn.{FnOnceTakesAtMut};
+ghost use Rattle.std.specs.Option.{ForSome};
+ghost use Rattle.managed.specs.Updates.{IsWrittenAt};
 ghost use Rattle.managed.specs.Storage.{items_of};
 
 use crate::ManagedSlice;
@@ -58,4 +61,13 @@ pub(crate) fn put<T: Drop>(items: &mut [T], index: usize, element: T)
     if index < items.len() {
         items[index] = element;
     }
+}
+
+// Calls a closure at an item.
+pub(crate) fn write_at<T, F: FnOnce(&mut T)>(items: &mut [T], index: usize, f: F)
+    requires room { index < length items.old }
+    requires callable { ForSome (slice_get items.old index) (FnOnceTakesAtMut F.FnOnce f) }
+    ensures { IsWrittenAt F.FnOnce f items.old index items.new }
+{
+    f(&mut items[index]);
 }

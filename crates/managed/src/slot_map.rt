@@ -3,12 +3,14 @@ ghost use Rattle.std.specs.Prelude.{◌≡◌, ◌↔◌, ◌<◌, min, length, 
 ghost use Rattle.std.specs.Borrow.{sem};
 ghost use Rattle.managed.specs.Storage.{items_of};
 ghost use Rattle.managed.specs.ItemLoans.{lends_item};
-ghost use Rattle.std.specs.Option.{ghost_name_of};
+ghost use Rattle.std.specs.Fn.{FnOnceTakesAtMut};
+ghost use Rattle.std.specs.Option.{ghost_name_of, option_map, ForSome};
+ghost use Rattle.managed.specs.Updates.{IsWrittenAt, Leaves};
 ghost use Rattle.managed.specs.SlotLoans.{entry_name};
 ghost use Rattle.managed.specs.SlotTable.{unused, IsLiveKey, IsFullTable, key_handed_out, place_handed_out, handed_out, freed_at, last_generation};
 
 use crate::ManagedSlice;
-use crate::elements::{Elements, put};
+use crate::elements::{Elements, put, write_at};
 use crate::slot_key::{SlotIndex, SlotKey};
 use crate::slot_links::SlotLinks;
 
@@ -175,6 +177,39 @@ impl<'a, T> SlotMap<'a, T> {
         }
         self.set(index.place, value);
         true
+    }
+
+    /// Calls a closure at a key's element, to write it, and tells whether the key was there.
+    pub fn write<F: FnOnce(&mut T)>(&mut self, index: SlotKey, f: F) -> bool
+        requires { ForSome (slice_get (elements_of self.old) index.place) (FnOnceTakesAtMut F.FnOnce f) }
+        ensures found { IsWhole self.old → (IsTrue result ↔ IsLiveKey (places_of self.old) index) }
+        ensures cause { IsTrue result → IsLiveKey (places_of self.old) index }
+        ensures room { IsTrue result → index.place < length (elements_of self.new) }
+        ensures written { IsTrue result → IsWrittenAt F.FnOnce f (elements_of self.old) index.place (elements_of self.new) }
+        ensures value { (h : T → T) → Leaves F.FnOnce f h → IsTrue result
+            → slice_get (elements_of self.new) index.place ≡ option_map h (slice_get (elements_of self.old) index.place) }
+        ensures others { places_of self.new ≡ places_of self.old }
+        ensures empty { IsFalse result → AsBefore self.old self.new }
+        ensures within { IsWhole self.old → IsWhole self.new }
+    {
+        if !self.has(index) {
+            return false;
+        }
+        self.write_item(index.place, f);
+        true
+    }
+
+    // Calls a closure at the element of a place.
+    fn write_item<F: FnOnce(&mut T)>(&mut self, place: usize, f: F)
+        requires room { place < length (elements_of self.old) }
+        requires callable { ForSome (slice_get (elements_of self.old) place) (FnOnceTakesAtMut F.FnOnce f) }
+        ensures others { places_of self.new ≡ places_of self.old }
+        ensures written { IsWrittenAt F.FnOnce f (elements_of self.old) place (elements_of self.new) }
+    {
+        match &mut self.owned {
+            Some(items) => write_at(items, place, f),
+            None => write_at(self.borrowed, place, f),
+        }
     }
 
     fn element(&self, place: usize) -> Option<&T>

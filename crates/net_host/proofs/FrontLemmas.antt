@@ -9,10 +9,10 @@ front_of None new taken took = tt
 front_of (Some bytes) None taken took = absurd took
 front_of (Some bytes) (Some more) taken took = (more, took)
 
--- all bytes are left at first
-pub all_left : (left : Option (List ℕ)) → IfSome left (λ bytes. (more : List ℕ) × (bytes ≡ [] ++ more))
-all_left None = tt
-all_left (Some bytes) = (bytes, refl)
+-- nothing is a front of all bytes
+pub no_front : (captured : Option (List ℕ)) (bytes : List ℕ) → AppendsFront captured captured bytes
+no_front None bytes = tt
+no_front (Some taken) bytes = ([], bytes, refl, sym (append-nil taken))
 
 -- known bytes that grew and then stayed are a front of what they grew by
 pub kept_front : (a b c : Option (List ℕ)) (bytes : List ℕ) → Appends a b bytes → Keeps b c → AppendsFront a c bytes

@@ -1,8 +1,11 @@
-pub mod AnchorLemmas
+pub mod AnsweredLemmas
+pub mod ArrivalLemmas
 pub mod CompleteLemmas
+pub mod DueLemmas
 pub mod FrontLemmas
 pub mod HistoryLemmas
 pub mod PlacingLemmas
+pub mod PlannedLemmas
 pub mod PolledLemmas
 pub mod PollingLemmas
 pub mod ProgressLemmas
@@ -11,3 +14,5 @@ pub mod ReadingLemmas
 pub mod RefusedLemmas
 pub mod ReportLemmas
 pub mod SmallLemmas
+pub mod StoppedLemmas
+pub mod WordLemmas

@@ -1,67 +1,68 @@
 -- The row of an event.
-use Rattle.std.proofs.Common.{◌≡◌, ℕ, ℤ, pos, List, [], ◌∷◌, ◌++◌, length, None, ap, sym, subst, ◌∙◌, refl}
+use Rattle.std.proofs.Common.{◌≡◌, ℕ, ℤ, pos, List, [], ◌∷◌, ◌++◌, length, Option, ap, subst, ◌∙◌, refl}
 use Rattle.phy_layers.specs.PcapBytes.{epoch_micros}
+use Rattle.net_wire.specs.declared.address.Ipv4Cidr.{Ipv4Cidr}
+use Rattle.host_model.specs.declared.words.EventWords.{EventWords}
 use Rattle.host_model.specs.Script.{Event}
 use Rattle.host_model.specs.Settings.{Settings}
 use Rattle.host_model.specs.History.{Entry}
-use Rattle.host_model.specs.Chronicle.{entry_at, entry_of, first_word}
+use Rattle.host_model.specs.Chronicle.{entry_at, entry_of, words_at}
+use Rattle.net_host.specs.declared.host.Handled.{Handled}
 use Rattle.net_host.specs.declared.host.Host.{Host}
 use Rattle.net_host.specs.declared.report.Kind.{Kind}
 use Rattle.net_host.specs.declared.report.Row.{Row}
-use Rattle.net_host.specs.declared.report.Sent.{Sent}
 use Rattle.net_host.specs.declared.script.ScriptEvent.{ScriptEvent}
-use Rattle.net_host.specs.declared.script.ScriptEvent.TheVariants as read
+use Rattle.net_host.specs.declared.script.ScriptEvent.TheVariants as script
 use Rattle.net_host.specs.Captured.{sent_records, event_records}
 use Rattle.net_host.specs.Agreement.{AgreesWithHistory}
 use Rattle.net_host.specs.Handling.{HandlesEvent}
-use Rattle.net_host.specs.Reading.{event_at, arrival_of}
+use Rattle.net_host.specs.Reading.{event_at}
 use Rattle.net_host.specs.Report.{new_row}
 use Rattle.net_host.specs.Rows.{kind_of, IsRowOf, AreFramesOf, dhcp_frames}
 use Rattle.net_host.specs.Config.{CanRun}
-use Rattle.net_host.proofs.AnchorLemmas.{loses_at}
-use Rattle.host_model.specs.Lease.{leased_under}
-use Rattle.net_host.specs.Taking.{PlacesRow}
+use Rattle.net_host.specs.Taking.{Standing, standing, PlacesRow}
 
 -- the row of an event, placed and then filled in
-abbrev pub place_row : (at : ℤ) (event : ScriptEvent) (word : ℕ) (host_old host_new : Host) (report_old begun report_new : List Row) (kind : Kind) (sent : List Sent)
-    → begun ≡ report_old ++ new_row at kind None ∷ []
-    → ((rows : List Row) (row : Row) → begun ≡ rows ++ row ∷ [] → report_new ≡ rows ++ record row { lease = None; sent = sent } ∷ [])
-    → kind ≡ kind_of (arrival_of event) → HandlesEvent at event word host_old host_new sent
-    → PlacesRow at event word host_old host_new report_old report_new
-place_row at event word host_old host_new report_old begun report_new kind sent begins fills is_kind handles = record {
-  row = record { at = at; kind = kind; lease = None; sent = sent };
-  placed = fills report_old (new_row at kind None) begins;
+abbrev pub place_row : (at : ℤ) (event : ScriptEvent) (words : EventWords) (host_old host_new : Host) (captured_old captured_new : Option (List ℕ))
+    (report_old begun report_new : List Row) (kind : Kind) (lease : Option Ipv4Cidr) (handled : Handled)
+    → begun ≡ report_old ++ new_row at kind lease ∷ []
+    → ((rows : List Row) (row : Row) → begun ≡ rows ++ row ∷ []
+    → report_new ≡ rows ++ record row { lease = handled.lease; sent = handled.sent } ∷ [])
+    → kind ≡ kind_of (event_at at event).arrival → HandlesEvent at event words host_old host_new handled
+    → PlacesRow at event words (standing host_old captured_old report_old) (standing host_new captured_new report_new)
+place_row at event words host_old host_new captured_old captured_new report_old begun report_new kind lease handled begins fills is_kind handles = record {
+  row = record { at = at; kind = kind; lease = handled.lease; sent = handled.sent };
+  placed = fills report_old (new_row at kind lease) begins;
   time = refl;
   kind = is_kind;
-  lease = refl;
   handles = handles;
 }
 
 -- no frame arrives in a tick
 pub records_of_tick : (at : ℤ) (event : ScriptEvent) (row : Row) → event_records (event_at at event) row ≡ sent_records (epoch_micros at) row.sent
-records_of_tick at read.Tick row = refl
+records_of_tick at script.Tick row = refl
 
 -- the row that an event placed is the row of its entry, and the host agrees with that
 pub record Placed (settings : Settings) (words : List ℕ) (before : List Entry) (event : Event) (row : Row) (host : Host) : Type 0 where
   pub row_of : IsRowOf settings before (entry_at settings words before event) row
   pub agrees : AgreesWithHistory settings (entry_at settings words before event ∷ before) host
 
-pub placed : (settings : Settings) (words : List ℕ) (before : List Entry) (at : ℤ) (event : ScriptEvent) (word : ℕ) (host_old host_new : Host)
-    (report_old report_new : List Row) (places : PlacesRow at event word host_old host_new report_old report_new)
-    → at ≡ pos (epoch_micros at) → CanRun settings → AgreesWithHistory settings before host_old → word ≡ first_word words (length before)
-    → Placed settings words before (event_at at event) places.row host_new
-placed settings words before at event word host_old host_new report_old report_new places is_time can agrees is_word =
+pub placed : (settings : Settings) (words : List ℕ) (before : List Entry) (at : ℤ) (event : ScriptEvent) (drawn : EventWords) (old new : Standing)
+    (places : PlacesRow at event drawn old new)
+    → at ≡ pos (epoch_micros at) → CanRun settings → AgreesWithHistory settings before old.host → drawn ≡ words_at words (length before)
+    → Placed settings words before (event_at at event) places.row new.host
+placed settings words before at event drawn old new places is_time can agrees are_drawn =
     let handled = places.handles settings before can agrees in
-    let is_entry : entry_of settings before (event_at at event) word ≡ entry_at settings words before (event_at at event) =
-    ap (entry_of settings before (event_at at event)) is_word in
-    let P : Entry → Type 0 = λ entry. AgreesWithHistory settings (entry ∷ before) host_new in
+    let is_entry : entry_of settings before (event_at at event) drawn ≡ entry_at settings words before (event_at at event) =
+    ap (entry_of settings before (event_at at event)) are_drawn in
+    let P : Entry → Type 0 = λ entry. AgreesWithHistory settings (entry ∷ before) new.host in
     let Q : Entry → Type 0 = λ entry. AreFramesOf settings entry.sent (dhcp_frames places.row.sent) in
     record {
       row_of = record {
         time = places.time ∙ is_time;
         kind = places.kind;
-        lease = places.lease ∙ sym (ap leased_under (loses_at settings before (event_at at event)));
-        dhcp = subst Q is_entry handled.1;
+        lease = handled.lease;
+        dhcp = subst Q is_entry handled.frames;
       };
-      agrees = subst P is_entry handled.0;
+      agrees = subst P is_entry handled.agrees;
     }

@@ -22,6 +22,9 @@ pos_le a b h = omega (arith, ints)
 pub pos_lt : (a b : ℕ) → pos a <ℤ pos b → a < b
 pos_lt a b h = omega (arith, ints)
 
+pub test_of_after : (a b : ℕ) → b < a → int_le (pos a) (pos b) ≡ false
+test_of_after a b h = search (rules, tests)
+
 pub test_of_lt : (a b : ℕ) → b ≤ a → int_lt (pos a) (pos b) ≡ false
 test_of_lt a b h = search (rules, tests)
 

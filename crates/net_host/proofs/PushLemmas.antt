@@ -1,14 +1,13 @@
 -- One event more: the order of events, their bytes, their rows and their records.
 use Rattle.std.proofs.Common.{◌≡◌, ℕ, List, [], ◌∷◌, ◌++◌, length, ap, sym, ◌∙◌, refl, arith, append_assoc, append-nil}
 use Rattle.phy_layers.specs.PcapBytes.{global_header}
-use Rattle.host_model.specs.Script.{Event, spelled, spelling, IsNext, AreInOrder, last_time}
+use Rattle.host_model.specs.Script.{Event, Spells, SpellsAll, IsNext, AreInOrder, last_time}
 use Rattle.host_model.specs.Settings.{Settings}
 use Rattle.host_model.specs.History.{Entry}
 use Rattle.host_model.specs.Chronicle.{entry_at, history_from}
 use Rattle.net_host.specs.declared.report.Row.{Row}
 use Rattle.net_host.specs.Captured.{event_records, records, run_capture}
 use Rattle.net_host.specs.Rows.{IsRowOf, AreRowsFrom}
-use Rattle.std.proofs.lemmas.Grind.{flat_map-append}
 
 -- one event more
 pub in_order_push : (last : ℕ) (events : List Event) (event : Event) → AreInOrder last events → IsNext (last_time last events) event
@@ -20,8 +19,16 @@ pub last_time_push : (last : ℕ) (events : List Event) (event : Event) → last
 last_time_push last [] event = refl
 last_time_push last (first ∷ events) event = last_time_push first.at events event
 
-pub spelling_push : (events : List Event) (event : Event) → spelling (events ++ event ∷ []) ≡ spelling events ++ spelled event
-spelling_push events event = flat_map-append spelled events (event ∷ []) ∙ ap (λ l. spelling events ++ l) (append-nil (spelled event))
+pub spells_push : (events : List Event) (event : Event) (bytes front : List ℕ) → SpellsAll events bytes → Spells event front
+    → SpellsAll (events ++ event ∷ []) (bytes ++ front)
+spells_push [] event bytes front none spelled = (front, [], ap (λ l. l ++ front) none ∙ sym (append-nil front), spelled, refl)
+spells_push (first ∷ events) event bytes front spell spelled = (
+  spell.0,
+  spell.1 ++ front,
+  ap (λ l. l ++ front) spell.2 ∙ append_assoc spell.0 spell.1 front,
+  spell.3,
+  spells_push events event spell.1 front spell.4 spelled,
+)
 
 pub rows_count : (settings : Settings) (words : List ℕ) (before : List Entry) (events : List Event) (rows : List Row)
     → AreRowsFrom settings words before events rows → length rows ≡ length events
@@ -56,3 +63,15 @@ pub capture_push : (events : List Event) (rows : List Row) (event : Event) (row 
 capture_push events rows event row counted =
     ap (λ l. global_header 1 ++ l) (records_push events rows event row counted)
     ∙ sym (append_assoc (global_header 1) (records events rows) (event_records event row))
+
+-- an event without a row adds nothing
+records_short : (events : List Event) (rows : List Row) (event : Event) → length rows ≡ length events → records (events ++ event ∷ []) rows ≡ records events rows
+records_short [] [] event counted = refl
+records_short [] (first ∷ rows) event counted = absurd (omega (arith, counted))
+records_short (first ∷ events) [] event counted = absurd (omega (arith, counted))
+records_short (first ∷ events) (row ∷ rows) event counted =
+    ap (λ l. event_records first row ++ l) (records_short events rows event (omega (arith, counted)))
+
+pub capture_short : (events : List Event) (rows : List Row) (event : Event) → length rows ≡ length events
+    → run_capture (events ++ event ∷ []) rows ≡ run_capture events rows
+capture_short events rows event counted = ap (λ l. global_header 1 ++ l) (records_short events rows event counted)

@@ -1,15 +1,22 @@
 -- Pieces of bytes that a source gives.
-use Rattle.std.proofs.Common.{◌≡◌, ℕ, ◌+◌, ◌<◌, ◌≤◌, List, [], ◌∷◌, ◌++◌, length, take, drop, ap, sym, ◌∙◌, refl, arith}
-use Rattle.std.proofs.Common.{ℤ, pos, ◌⊎◌, ⊎_elim, get_or, subst, Option, Some, None, IfSome}
-use Rattle.std.specs.Int.{to_be_bytes, from_be_bytes, w64}
+use Rattle.std.proofs.Common.{◌≡◌, ℕ, ◌+◌, ◌^◌, ◌<◌, ◌≤◌, List, [], ◌∷◌, ◌++◌, length, take, drop, ap, sym, ◌∙◌, refl, arith}
+use Rattle.std.proofs.Common.{◌⊎◌, inl, inr, ⊎_elim, leb, false, get_or, subst, Option, Some, None, IfSome, append-nil, length-append}
+use Rattle.std.specs.Int.{from_be_bytes, w64}
 use Rattle.std.specs.Io.KnownBytes.{Consumes}
 use Rattle.std.proofs.KnownBytes.{Consumes-trans}
-use Rattle.std.proofs.lemmas.Nat.{from_be_bytes-to_be_bytes_8, be_bytes_8}
-use Rattle.host_model.specs.Script.{Event, spelled, time_limit}
-use Rattle.net_host.specs.Reading.{BeginsNoEvent, GivesEvent}
-use Rattle.net_host.specs.declared.script.ScriptEvent.TheVariants as read
+use Rattle.std.proofs.lemmas.Nat.{be_bytes_8}
 use Rattle.std.proofs.lemmas.List.{take-append-drop, drop-drop, take_at, length-take, take-append-le}
 use Rattle.std.proofs.Math.Seq.{take-append-add}
+use Rattle.host_model.specs.Script.{Arrival, Tick, kind_byte, head_bytes, time_limit, BeginsNoEvent}
+use Rattle.host_model.specs.Parts.{IsInside, IsWrongKind, IsWrongTime, IsRefused}
+use Rattle.host_model.proofs.PartLemmas.{refused, cut_off}
+use Rattle.net_host.specs.declared.script.EventKind.{EventKind}
+use Rattle.net_host.specs.declared.script.EventKind.TheVariants as kind
+use Rattle.net_host.specs.Head.{byte_of}
+use Rattle.net_host.specs.Reading.{EndsInside, EndsWith}
+use Rattle.net_host.specs.declared.script.ReadEventError.{ReadEventError}
+use Rattle.net_host.specs.declared.script.ReadEventError.TheVariants as script
+use Rattle.std.proofs.lemmas.Bool.Decides.{nat_tests}
 
 -- what is left is what was given and what is left then
 pub given : (bytes copied rest : List ℕ) (at count : ℕ) → copied ≡ take count (drop at bytes) → length copied ≡ count
@@ -31,44 +38,89 @@ one_byte [] value short is_value = absurd (omega (arith, short))
 one_byte (byte ∷ []) value short is_value = ap (λ b. b ∷ []) is_value
 one_byte (byte ∷ other ∷ bytes) value long is_value = absurd (omega (arith, long))
 
--- the time of an event that begins the bytes is the number behind the first byte
-pub time_of_front : (kind : ℕ) (time rest : List ℕ) (event : Event) (more : List ℕ) → length time ≡ 8 → event.at < time_limit
-    → (kind ∷ time) ++ rest ≡ spelled event ++ more → from_be_bytes w64 time ≡ event.at
-time_of_front kind time rest event more is_long in_range same =
-    let numbers : from_be_bytes w64 (take 8 (time ++ rest)) ≡ from_be_bytes w64 (to_be_bytes w64 event.at) =
-    ap (λ l. from_be_bytes w64 (take 8 (drop 1 l))) same in
-    ap (from_be_bytes w64) (sym (take_at time rest 8 is_long)) ∙ numbers ∙ from_be_bytes-to_be_bytes_8 event.at (omega arith)
-
--- bytes that begin with a kind and a time out of range begin no event
-pub begins_no_event : (last kind : ℕ) (time : List ℕ) (old new : Option (List ℕ)) → length time ≡ 8
-    → (from_be_bytes w64 time < last) ⊎ (time_limit ≤ from_be_bytes w64 time)
-    → Consumes old new (kind ∷ time) → IfSome old (BeginsNoEvent last)
-begins_no_event last kind time None new is_long out took = tt
-begins_no_event last kind time (Some bytes) None is_long out took = absurd took
-begins_no_event last kind time (Some bytes) (Some rest) is_long out took = record {
-  goes_on = let counted : length bytes ≡ length ((kind ∷ time) ++ rest) = ap length took in omega (arith, counted);
-  no_event = λ event more next same.
-      let number = time_of_front kind time rest event more is_long next.in_range (sym took ∙ same) in
-      ⊎_elim (λ (early : from_be_bytes w64 time < last). omega (arith, early, number, next.not_before))
-      (λ (late : time_limit ≤ from_be_bytes w64 time). omega (arith, late, number, next.in_range)) out;
-}
-
--- a kind and a time, read one after the other
+-- a kind and what was read behind it
 pub kind_and_time : (old mid new : Option (List ℕ)) (kind time : List ℕ) (value : ℕ) → length kind ≡ 1 → get_or kind 0 0 ≡ value
-    → Consumes old mid kind → Consumes mid new time → Consumes old new (value ∷ time)
+    → Consumes old mid kind → Consumes mid new time → Consumes old new (value ∷ [] ++ time)
 kind_and_time old mid new kind time value is_one is_value first second =
     let P : List ℕ → Type 0 = λ l. Consumes old new (l ++ time) in
     subst P (one_byte kind value is_one is_value) (Consumes-trans old mid new kind time first second)
 
--- a kind and a time in range are a tick
-pub gives_tick : (last micros : ℕ) (time : List ℕ) (old new : Option (List ℕ)) (at : ℤ) → at ≡ pos micros
-    → length time ≡ 8 → ((i : ℕ) → get_or time i 0 < 256) → micros ≡ from_be_bytes w64 time → last ≤ micros → micros < time_limit
-    → Consumes old new (2 ∷ time) → GivesEvent last old new at read.Tick
-gives_tick last micros time old new at is_at is_long are_bytes number not_before in_range took =
-    let P : ℤ → Type 0 = λ z. GivesEvent last old new z read.Tick in
-    let Q : List ℕ → Type 0 = λ l. Consumes old new (2 ∷ l) in
-    subst P (sym is_at) (record {
-      next = record { not_before = not_before; in_range = in_range; arrival = tt };
-      time = refl;
-      took = subst Q (sym (be_bytes_8 time micros is_long are_bytes number)) took;
-    })
+-- the arrival of a kind that has no rest
+pub arrival_of : (kind : EventKind) → (arrival : Arrival) × (byte_of kind ≡ kind_byte arrival)
+arrival_of kind.Tick = (Tick, refl)
+
+-- no part, or a part of a time
+pub in_kind : (last : ℕ) (part : List ℕ) → length part < 1 → IsInside last part
+in_kind last [] short = inl refl
+in_kind last (byte ∷ part) short = absurd (omega (arith, short))
+
+pub in_time : (last : ℕ) (kind : EventKind) (time : List ℕ) → length time < 8 → IsInside last (byte_of kind ∷ [] ++ time)
+in_time last kind time short = inr (record {
+  arrival = (arrival_of kind).0;
+  time = time;
+  whole = ap (λ b. b ∷ [] ++ time) (arrival_of kind).1;
+  short = short;
+})
+
+-- a time that is refused
+pub wrong_time : (last micros : ℕ) (kind : EventKind) (time : List ℕ) → length time ≡ 8 → ((i : ℕ) → get_or time i 0 < 256)
+    → micros ≡ from_be_bytes w64 time → micros < 2 ^ 64 → (micros < last) ⊎ (time_limit ≤ micros) → IsRefused last (byte_of kind ∷ [] ++ time)
+wrong_time last micros kind time is_long are_bytes number fits wrong = inr (record {
+  arrival = (arrival_of kind).0;
+  at = micros;
+  fits = fits;
+  whole = ap (λ b. b ∷ [] ++ time) (arrival_of kind).1
+      ∙ ap (λ l. kind_byte (arrival_of kind).0 ∷ [] ++ l) (sym (be_bytes_8 time micros is_long are_bytes number));
+  wrong = wrong;
+})
+
+-- what a part that is refused, or that the input ends in, says of what was left
+pub no_event : (last : ℕ) (left_old left_new : Option (List ℕ)) (part : List ℕ) → Consumes left_old left_new part
+    → IsRefused last part ⊎ EndsInside last left_new part → IfSome left_old (BeginsNoEvent last)
+no_event last None left_new part took ends = tt
+no_event last (Some bytes) None part took ends = absurd took
+no_event last (Some bytes) (Some more) part took (inl wrong) =
+    let P : List ℕ → Type 0 = BeginsNoEvent last in
+    subst P (sym took) (refused last part more wrong)
+no_event last (Some bytes) (Some more) part took (inr ends) =
+    let P : List ℕ → Type 0 = BeginsNoEvent last in
+    let all : bytes ≡ part = took ∙ ap (λ l. part ++ l) ends.at_end ∙ append-nil part in
+    subst P (sym all) (cut_off last part ends.inside)
+
+-- what was taken was there
+pub some_left : (left_old left_new : Option (List ℕ)) (part : List ℕ) → Consumes left_old left_new part → 0 < length part
+    → IfSome left_old (λ bytes. 0 < length bytes)
+some_left None left_new part took some = tt
+some_left (Some bytes) None part took some = absurd took
+some_left (Some bytes) (Some more) part took some =
+    let counted : length bytes ≡ length (part ++ more) = ap length took in omega (arith, counted, length-append part more)
+
+-- a part that is refused has bytes
+refused_some : (last : ℕ) (part : List ℕ) → IsRefused last part → 0 < length part
+refused_some last part wrong =
+    ⊎_elim
+    (λ (kind : IsWrongKind part). let counted : length part ≡ 1 = ap length kind.whole in omega (arith, counted))
+    (λ (time : IsWrongTime last part).
+    let counted : length part ≡ length (head_bytes time.arrival time.at) = ap length time.whole in omega (arith, counted))
+    wrong
+
+-- what a refusal says of what was left
+ends_script : (last : ℕ) (left_old left_new : Option (List ℕ)) (part : List ℕ) → Consumes left_old left_new part
+    → IsRefused last part ⊎ EndsInside last left_new part → IfSome left_old (λ bytes. (0 < length bytes) × BeginsNoEvent last bytes)
+ends_script last None left_new part took ends = tt
+ends_script last (Some bytes) left_new part took ends =
+    let some : 0 < length part =
+    ⊎_elim (λ (wrong : IsRefused last part). refused_some last part wrong) (λ (inside : EndsInside last left_new part). inside.some) ends in
+    (some_left (Some bytes) left_new part took some, no_event last (Some bytes) left_new part took ends)
+
+-- and what the reader says of it, by its answer
+pub says_script : (error : ReadEventError) (offset max events last : ℕ) (left_old left_new : Option (List ℕ))
+    → ((o : ℕ) → error ≡ script.Script o → (o ≡ offset) × (leb max events ≡ false))
+    → ((part : List ℕ) × Consumes left_old left_new part × EndsWith error last left_new part)
+    → (o : ℕ) → error ≡ script.Script o
+    → (o ≡ offset) × (events < max) × IfSome left_old (λ bytes. (0 < length bytes) × BeginsNoEvent last bytes)
+says_script (script.Script at) offset max events last left_old left_new says took = λ o is.
+    let told = says o is in
+    (told.0, grind (arith, nat_tests, told.1), ends_script last left_old left_new took.0 took.1 took.2)
+says_script script.Limit offset max events last left_old left_new says took = λ o is. cc
+says_script script.Read offset max events last left_old left_new says took = λ o is. cc

@@ -1,116 +1,142 @@
 -- What a run leaves that the capture or want of memory stopped.
-use Rattle.std.proofs.Common.{◌≡◌, ℕ, ◌<◌, inl, inr, ⊎_elim, ℤ, pos, List, [], ◌∷◌, ◌++◌, length, Option, None, IfSome, ap, sym, subst, ◌∙◌, refl, arith, append-nil, zero-add}
+use Rattle.std.proofs.Common.{◌≡◌, ℕ, ◌⊎◌, inl, inr, ⊎_elim, ℤ, pos, List, [], ◌∷◌, ◌++◌, Option, ap, sym, subst, ◌∙◌, refl, arith, append-nil}
+use Rattle.std.specs.Io.KnownBytes.{Consumes}
+use Rattle.std.proofs.KnownBytes.{Consumes-nil}
 use Rattle.wire_base.specs.Causes.{AppendsFront}
 use Rattle.phy_layers.specs.PcapBytes.{epoch_micros, global_header}
-use Rattle.host_model.specs.Script.{spelling}
-use Rattle.host_model.specs.Settings.{Settings}
-use Rattle.host_model.specs.Chronicle.{history, first_word}
-use Rattle.net_host.specs.declared.host.Host.{Host}
-use Rattle.net_host.specs.declared.report.Row.{Row}
-use Rattle.net_host.specs.declared.script.ScriptEvent.{ScriptEvent}
-use Rattle.net_host.specs.Captured.{event_records, run_capture}
-use Rattle.net_host.specs.Reading.{event_at, arrival_of, GivesEvent}
-use Rattle.net_host.specs.Report.{new_row}
-use Rattle.net_host.specs.Rows.{kind_of, AreRows}
-use Rattle.net_host.specs.Config.{CanRun}
-use Rattle.net_host.specs.Taking.{LeavesEvent, LeavesNoRow, LeavesNewRow, LeavesFront}
-use Rattle.net_host.specs.Run.{Interrupted, Leaves}
-use Rattle.net_host.specs.RunError.{of_sink}
 use Rattle.phy_layers.specs.declared.byte_sink.SinkError.{SinkError}
 use Rattle.phy_layers.specs.declared.byte_sink.SinkError.TheVariants as sink
 use Rattle.phy_layers.proofs.SinkLemmas.{AppendsFront-then, AppendsFront-longer}
-use Rattle.host_model.proofs.ChronicleLemmas.{length-history_from}
-use Rattle.net_host.proofs.PushLemmas.{rows_count, rows_push, capture_push}
+use Rattle.host_model.specs.Script.{Event}
+use Rattle.host_model.specs.declared.words.EventWords.{EventWords}
+use Rattle.host_model.specs.Chronicle.{history, words_at}
+use Rattle.net_host.specs.declared.host.Host.{Host}
+use Rattle.net_host.specs.declared.report.Row.{Row}
+use Rattle.net_host.specs.declared.run_script.RunError.TheVariants.{NoMemory}
+use Rattle.net_host.specs.declared.script.ScriptEvent.{ScriptEvent}
+use Rattle.net_host.specs.Captured.{event_records, run_capture}
+use Rattle.net_host.specs.Config.{CanRun}
+use Rattle.net_host.specs.Outside.{Outside}
+use Rattle.net_host.specs.ReaderState.{ReaderState}
+use Rattle.net_host.specs.Reading.{event_at, GivesEvent}
+use Rattle.net_host.specs.Report.{new_row}
+use Rattle.net_host.specs.Rows.{kind_of, AreRows}
+use Rattle.net_host.specs.Run.{Task, Taken, HasRows, LacksRow, Interrupted, Leaves}
+use Rattle.net_host.specs.RunError.{of_sink}
+use Rattle.net_host.specs.Taking.{standing, LeavesEvent, LeavesRow, LeavesNoRow, LeavesNewRow, LeavesFront}
+use Rattle.net_host.proofs.PushLemmas.{rows_count, rows_push, capture_push, capture_short}
 use Rattle.net_host.proofs.PlacingLemmas.{placed}
-use Rattle.net_host.proofs.FrontLemmas.{front_of, all_left, kept_front}
-use Rattle.net_host.proofs.ProgressLemmas.{Progress, reached}
+use Rattle.net_host.proofs.FrontLemmas.{kept_front, no_front}
+use Rattle.net_host.proofs.ProgressLemmas.{Progress, taken_next, next_words}
 
--- an interruption by a sink
-pub interruption : (settings : Settings) (words : List ℕ) (max : ℕ) (left captured_old captured_new : Option (List ℕ)) (report : List Row) (error : SinkError)
-    → Interrupted settings words max left captured_old captured_new report → Leaves settings words max left captured_old captured_new report (of_sink error)
-interruption settings words max left captured_old captured_new report sink.Fault interrupted = interrupted
-interruption settings words max left captured_old captured_new report sink.NoMemory interrupted = interrupted
+-- before the first event: nothing was taken
+none_taken : (task : Task) (before after : Outside) → after.left ≡ before.left → Taken task before after
+none_taken task before after same =
+    let P : Option (List ℕ) → Type 0 = λ left. Consumes before.left left [] in
+    record { events = []; front = []; part = []; in_order = tt; few = omega arith; spelled = refl; took = subst P (sym same) (Consumes-nil before.left) }
 
--- the answer of a refused header: nothing was read
-pub header_refused : (settings : Settings) (words : List ℕ) (max : ℕ) (left captured_old captured_new : Option (List ℕ)) (report : List Row) (error : SinkError)
-    → report ≡ [] → AppendsFront captured_old captured_new (global_header 1)
-    → Leaves settings words max left captured_old captured_new report (of_sink error)
-header_refused settings words max left captured_old captured_new report error empty front =
-    let read : IfSome left (λ bytes. (more : List ℕ) × (bytes ≡ [] ++ more)) = all_left left in
-    let P : List Row → Type 0 = λ rows. AreRows settings words [] rows in
-    let Q : List ℕ → Type 0 = λ l. AppendsFront captured_old captured_new l in
-    let left_over : Interrupted settings words max left captured_old captured_new report = record {
-      events = [];
-      read = read;
-      in_order = tt;
-      few = omega arith;
-      rows = inl (subst P (sym empty) tt);
-      captured = subst Q (sym (append-nil (global_header 1))) front;
-    } in
-    interruption settings words max left captured_old captured_new report error left_over
+none_answered : (task : Task) (before after : Outside) (report : List Row) (Rows : List Event → Type 0) → report ≡ [] → after.left ≡ before.left
+    → Rows [] → AppendsFront before.captured after.captured (global_header 1) → Interrupted task before after report Rows
+unfolding none_taken
+none_answered task before after report Rows empty same rows front =
+    let Q : List ℕ → Type 0 = λ l. AppendsFront before.captured after.captured l in
+    record { taken = none_taken task before after same; whole = refl; rows = rows; captured = subst Q (sym (append-nil (global_header 1))) front }
 
--- what an event leaves that was not taken in to its end
-pub event_refused : (settings : Settings) (words : List ℕ) (max : ℕ) (left_old left_now left_new captured_old captured_now captured_new : Option (List ℕ))
-    (count last offset : ℕ) (host_old host_new : Host) (report_old report_new : List Row) (at : ℤ) (event : ScriptEvent) (word : ℕ)
-    → Progress settings words left_old left_now captured_old captured_now count last offset host_old report_old
-    → count < max → CanRun settings → at ≡ pos (epoch_micros at) → word ≡ first_word words count
-    → GivesEvent last left_now left_new at event
-    → LeavesEvent at event word host_old host_new captured_now captured_new report_old report_new
-    → Interrupted settings words max left_old captured_old captured_new report_new
-event_refused settings words max left_old left_now left_new captured_old captured_now captured_new count last offset host_old host_new report_old report_new at event word
-    progress below can is_time is_word gives leaves =
+no_rows : (task : Task) (report : List Row) → report ≡ [] → HasRows task report []
+no_rows task report empty =
+    let P : List Row → Type 0 = λ rows. AreRows task.settings task.words [] rows in
+    inl (subst P (sym empty) tt)
+
+-- the answer of a refused header
+pub header_leaves : (task : Task) (before after : Outside) (report : List Row) (error : SinkError) → report ≡ [] → after.left ≡ before.left
+    → AppendsFront before.captured after.captured (global_header 1) → Leaves task before after report (of_sink error)
+header_leaves task before after report sink.Fault empty same front =
+    none_answered task before after report (HasRows task report) empty same (no_rows task report empty) front
+header_leaves task before after report sink.NoMemory empty same front =
+    none_answered task before after report (λ events. HasRows task report events ⊎ LacksRow task report events) empty same
+    (inl (no_rows task report empty)) front
+
+-- want of memory before anything
+pub nothing_run : (task : Task) (before : Outside) (report : List Row) → report ≡ [] → Leaves task before before report NoMemory
+nothing_run task before report empty =
+    none_answered task before before report (λ events. HasRows task report events ⊎ LacksRow task report events) empty refl
+    (inl (no_rows task report empty)) (no_front before.captured (global_header 1))
+
+-- the row of the event is placed
+pub row_leaves : (task : Task) (before now after : Outside) (old new : ReaderState) (host_old host_new : Host) (report_old report_new : List Row)
+    (at : ℤ) (event : ScriptEvent) (drawn : EventWords)
+    → Progress task before now old host_old report_old → CanRun task.settings → drawn ≡ words_at task.words old.events
+    → GivesEvent task.max old new now.left after.left at event
+    → LeavesRow at event drawn (standing host_old now.captured report_old) (standing host_new after.captured report_new)
+    → Interrupted task before after report_new (HasRows task report_new)
+unfolding taken_next
+row_leaves task before now after old new host_old host_new report_old report_new at event drawn progress can are_drawn gives leaves =
     let e = event_at at event in
-    let next = reached settings words max left_old left_now left_new captured_old captured_now count last offset host_old report_old at event progress below gives in
-    let counted = rows_count settings words [] progress.events report_old progress.rows in
-    let is_place : word ≡ first_word words (length (history settings words progress.events)) =
-    is_word ∙ ap (first_word words) (sym progress.counted ∙ sym (length-history_from settings words [] progress.events ∙ zero-add (length progress.events))) in
-    let R : List Row → Type 0 = λ rows. AreRows settings words progress.events rows in
-    let Q : List Row → Type 0 = λ rows. AppendsFront captured_old captured_new (run_capture progress.events rows) in
+    let answered = progress.answered in
+    let counted = rows_count task.settings task.words [] progress.events report_old answered.rows in
+    let S : List Row → Type 0 = λ rows. AppendsFront before.captured after.captured (run_capture (progress.events ++ e ∷ []) rows) in
+    let T : List ℕ → Type 0 = λ l. AppendsFront before.captured after.captured l in
+    let U : List Row → Type 0 = λ rows. AreRows task.settings task.words (progress.events ++ e ∷ []) rows in
     ⊎_elim
-    (λ (none : LeavesNoRow captured_now captured_new report_old report_new). record {
-      events = progress.events;
-      read = front_of left_old left_now (spelling progress.events) progress.taken;
-      in_order = progress.in_order;
-      few = omega (arith, progress.counted);
-      rows = inl (subst R (sym none.same) progress.rows);
-      captured = subst Q (sym none.same) (kept_front captured_old captured_now captured_new (run_capture progress.events report_old) progress.captured none.kept);
-    })
-    (⊎_elim
-    (λ (begun : LeavesNewRow at event captured_now captured_new report_old report_new).
-    let S : List Row → Type 0 = λ rows. AppendsFront captured_old captured_new (run_capture (progress.events ++ e ∷ []) rows) in
-    let row = new_row at (kind_of (arrival_of event)) None in
+    (λ (begun : LeavesNewRow at event (standing host_old now.captured report_old) (standing host_new after.captured report_new)).
+    let row = new_row at (kind_of e.arrival) host_old.lease in
     let grown = capture_push progress.events report_old e row counted in
-    let T : List ℕ → Type 0 = λ l. AppendsFront captured_old captured_new l in
     record {
-      events = progress.events ++ e ∷ [];
-      read = front_of left_old left_new (spelling (progress.events ++ e ∷ [])) next.taken;
-      in_order = next.in_order;
-      few = next.few;
+      taken = taken_next task before now after old new host_old report_old at event progress gives;
+      whole = refl;
       rows = inr (record {
         earlier = progress.events;
         event = e;
         done = report_old;
         event_last = refl;
-        row_last = begun.placed ∙ ap (λ t. report_old ++ new_row t (kind_of (arrival_of event)) None ∷ []) is_time;
-        rows = progress.rows;
+        row_last = begun.placed ∙ ap (λ t. report_old ++ new_row t (kind_of e.arrival) host_old.lease ∷ []) gives.time
+            ∙ ap (λ l. report_old ++ new_row (pos (epoch_micros at)) (kind_of e.arrival) l ∷ []) progress.agrees.lease;
+        rows = answered.rows;
       });
       captured = subst S (sym begun.placed) (subst T (sym grown)
-          (AppendsFront-longer captured_old captured_new (run_capture progress.events report_old) (event_records e row)
-          (kept_front captured_old captured_now captured_new (run_capture progress.events report_old) progress.captured begun.kept)));
+          (AppendsFront-longer before.captured after.captured (run_capture progress.events report_old) (event_records e row)
+          (kept_front before.captured now.captured after.captured (run_capture progress.events report_old) answered.captured begun.kept)));
     })
-    (λ (front : LeavesFront at event word host_old host_new captured_now captured_new report_old report_new).
-    let S : List Row → Type 0 = λ rows. AppendsFront captured_old captured_new (run_capture (progress.events ++ e ∷ []) rows) in
-    let U : List Row → Type 0 = λ rows. AreRows settings words (progress.events ++ e ∷ []) rows in
+    (λ (front : LeavesFront at event drawn (standing host_old now.captured report_old) (standing host_new after.captured report_new)).
     let grown = capture_push progress.events report_old e front.places.row counted in
-    let T : List ℕ → Type 0 = λ l. AppendsFront captured_old captured_new l in
-    let done = placed settings words (history settings words progress.events) at event word host_old host_new report_old report_new front.places is_time can progress.agrees is_place in
+    let is_place = next_words task progress.events old.events drawn progress.counted are_drawn in
+    let done = placed task.settings task.words (history task.settings task.words progress.events) at event drawn
+    (standing host_old now.captured report_old) (standing host_new after.captured report_new) front.places gives.time can progress.agrees is_place in
     record {
-      events = progress.events ++ e ∷ [];
-      read = front_of left_old left_new (spelling (progress.events ++ e ∷ [])) next.taken;
-      in_order = next.in_order;
-      few = next.few;
-      rows = inl (subst U (sym front.places.placed) (rows_push settings words [] progress.events report_old e front.places.row progress.rows done.row_of));
+      taken = taken_next task before now after old new host_old report_old at event progress gives;
+      whole = refl;
+      rows = inl (subst U (sym front.places.placed)
+          (rows_push task.settings task.words [] progress.events report_old e front.places.row answered.rows done.row_of));
       captured = subst S (sym front.places.placed) (subst T (sym grown)
-          (AppendsFront-then captured_old captured_now captured_new (run_capture progress.events report_old) (event_records e front.places.row) progress.captured front.captured));
-    }))
+          (AppendsFront-then before.captured now.captured after.captured (run_capture progress.events report_old) (event_records e front.places.row)
+          answered.captured front.captured));
+    })
+    leaves
+
+-- the row of the event is placed or not
+pub event_leaves : (task : Task) (before now after : Outside) (old new : ReaderState) (host_old host_new : Host) (report_old report_new : List Row)
+    (at : ℤ) (event : ScriptEvent) (drawn : EventWords)
+    → Progress task before now old host_old report_old → CanRun task.settings → drawn ≡ words_at task.words old.events
+    → GivesEvent task.max old new now.left after.left at event
+    → LeavesEvent at event drawn (standing host_old now.captured report_old) (standing host_new after.captured report_new)
+    → Leaves task before after report_new NoMemory
+unfolding taken_next
+event_leaves task before now after old new host_old host_new report_old report_new at event drawn progress can are_drawn gives leaves =
+    let e = event_at at event in
+    let answered = progress.answered in
+    let counted = rows_count task.settings task.words [] progress.events report_old answered.rows in
+    let R : List Row → Type 0 = λ rows. AreRows task.settings task.words progress.events rows in
+    let S : List Row → Type 0 = λ rows. AppendsFront before.captured after.captured (run_capture (progress.events ++ e ∷ []) rows) in
+    let T : List ℕ → Type 0 = λ l. AppendsFront before.captured after.captured l in
+    ⊎_elim
+    (λ (none : LeavesNoRow (standing host_old now.captured report_old) (standing host_new after.captured report_new)). record {
+      taken = taken_next task before now after old new host_old report_old at event progress gives;
+      whole = refl;
+      rows = inr (record { earlier = progress.events; event = e; event_last = refl; rows = subst R (sym none.same) answered.rows });
+      captured = subst S (sym none.same) (subst T (sym (capture_short progress.events report_old e counted))
+          (kept_front before.captured now.captured after.captured (run_capture progress.events report_old) answered.captured none.kept));
+    })
+    (λ (row : LeavesRow at event drawn (standing host_old now.captured report_old) (standing host_new after.captured report_new)).
+    let left = row_leaves task before now after old new host_old host_new report_old report_new at event drawn progress can are_drawn gives row in
+    record { taken = left.taken; whole = left.whole; rows = inl left.rows; captured = left.captured })
     leaves

@@ -3,7 +3,7 @@ use Rattle.std.proofs.Common.{ℕ, ◌^◌, ◌<◌, List, [], ◌∷◌, ◌++�
 use Rattle.net_wire.specs.declared.error.Context.{Context}
 use Rattle.net_wire.specs.declared.error.EmitError.TheVariants.{Unresolved}
 use Rattle.dhcp_client.specs.Client.{Client}
-use Rattle.dhcp_client.specs.Plan.{Plan, Send, Wait, plan_for, Dispatched}
+use Rattle.dhcp_client.specs.Plan.{Plan, Send, Restart, Wait, plan_for, Dispatched}
 use Rattle.net_host.specs.declared.emitter.Emitter.{Emitter}
 use Rattle.net_host.specs.declared.report.Mark.TheVariants.{Dhcp}
 use Rattle.net_host.specs.declared.report.Sent.{Sent}
@@ -22,6 +22,9 @@ dispatched_small : (plan : Plan) (old new : Client) (out later : Emitter) → Di
 dispatched_small Wait old new out later done small =
     let P : Emitter → Type 0 = λ e. AreCapturable e.sent in
     subst P (sym done.2) small
+dispatched_small Restart old new out later done small =
+    let P : Emitter → Type 0 = λ e. AreCapturable e.sent in
+    subst P (sym done.2) small
 dispatched_small (Send outgoing before after) old new out later done small =
     let P : Emitter → Type 0 = λ e. AreCapturable e.sent in
     subst P (sym done.0.ok.listed) (small_push out.sent (record { mark = Dhcp; frame = done.0.ok.frame }) small done.0.ok.within)
@@ -29,6 +32,9 @@ dispatched_small (Send outgoing before after) old new out later done small =
 dispatched_refused : (plan : Plan) (old new : Client) (out later : Emitter) → Dispatched TakesMessage RefusesMessage plan (Err Unresolved) old new out later
     → AreCapturable out.sent → AreCapturable later.sent
 dispatched_refused Wait old new out later done small =
+    let P : Emitter → Type 0 = λ e. AreCapturable e.sent in
+    subst P (sym done.2) small
+dispatched_refused Restart old new out later done small =
     let P : Emitter → Type 0 = λ e. AreCapturable e.sent in
     subst P (sym done.2) small
 dispatched_refused (Send outgoing before after) old new out later done small =

@@ -1,18 +1,28 @@
 -- What one event does to a host.
-use Rattle.std.specs.Prelude.{ℕ, ℤ, List, ◌∷◌}
+use Rattle.std.specs.Prelude.{◌≡◌, ℤ, List, ◌∷◌}
+use Rattle.host_model.specs.declared.words.EventWords.{EventWords}
 use Rattle.host_model.specs.Settings.{Settings}
 use Rattle.host_model.specs.History.{Entry}
+use Rattle.host_model.specs.Anchor.{anchor_at}
 use Rattle.host_model.specs.Chronicle.{entry_of}
+use Rattle.host_model.specs.Lease.{leased_under}
+use Rattle.net_host.specs.declared.host.Handled.{Handled}
 use Rattle.net_host.specs.declared.host.Host.{Host}
-use Rattle.net_host.specs.declared.report.Sent.{Sent}
 use Rattle.net_host.specs.declared.script.ScriptEvent.{ScriptEvent}
 use Rattle.net_host.specs.Agreement.{AgreesWithHistory}
 use Rattle.net_host.specs.Config.{CanRun}
 use Rattle.net_host.specs.Reading.{event_at}
 use Rattle.net_host.specs.Rows.{AreFramesOf, dhcp_frames}
 
--- Whatever the history is that the host agrees with: it agrees with that and the event's entry, whose frames were sent.
-abbrev pub HandlesEvent : ℤ → ScriptEvent → ℕ → Host → Host → List Sent → Type 0
-HandlesEvent at event word old new sent = (settings : Settings) (before : List Entry) → CanRun settings → AgreesWithHistory settings before old
-    → AgreesWithHistory settings (entry_of settings before (event_at at event) word ∷ before) new
-    × AreFramesOf settings (entry_of settings before (event_at at event) word).sent (dhcp_frames sent)
+-- A history that the host agrees with before the event: it agrees with that and the event's entry after it, whose frames
+-- were sent, and gives the address that is leased then.
+pub record Answers (settings : Settings) (before : List Entry) (at : ℤ) (event : ScriptEvent) (words : EventWords) (new : Host)
+    (handled : Handled) : Type 0 where
+  pub agrees : AgreesWithHistory settings (entry_of settings before (event_at at event) words ∷ before) new
+  pub lease : handled.lease ≡ leased_under (anchor_at settings before (event_at at event))
+  pub frames : AreFramesOf settings (entry_of settings before (event_at at event) words).sent (dhcp_frames handled.sent)
+
+-- whatever the history is that the host agrees with
+abbrev pub HandlesEvent : ℤ → ScriptEvent → EventWords → Host → Host → Handled → Type 0
+HandlesEvent at event words old new handled = (settings : Settings) (before : List Entry) → CanRun settings
+    → AgreesWithHistory settings before old → Answers settings before at event words new handled

@@ -2,9 +2,13 @@ pub mod Agreement
 pub mod Captured
 pub mod Config
 pub mod Emitter
+pub mod EventReader
 pub mod Handling
+pub mod Head
 pub mod HostConfig
+pub mod Outside
 pub mod Polling
+pub mod ReaderState
 pub mod Reading
 pub mod Report
 pub mod Rows

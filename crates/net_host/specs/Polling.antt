@@ -1,10 +1,9 @@
 -- What a host does with its DHCP client in an event: it dispatches while the client is due.
-use Rattle.std.specs.Prelude.{ℕ, ◌+◌, ◌<◌, ◌≤◌, ◌≤ℤ◌, ◌<ℤ◌, length, Ok, Err}
-use Rattle.std.specs.List.{AllByRecursion}
+use Rattle.std.specs.Prelude.{ℕ, ◌<◌, ◌≤ℤ◌, ◌<ℤ◌, Ok, Err}
 use Rattle.net_wire.specs.declared.error.Context.{Context}
 use Rattle.net_wire.specs.declared.error.EmitError.TheVariants.{Unresolved}
-use Rattle.net_wire.specs.DhcpBytes.{IsWritableOption, additional_bytes}
 use Rattle.dhcp_client.specs.Client.{Client, poll_at_of}
+use Rattle.dhcp_client.specs.Config.{AreSettingsWritable}
 use Rattle.dhcp_client.specs.Plan.{plan_for, Dispatched}
 use Rattle.net_host.specs.declared.emitter.Emitter.{Emitter}
 use Rattle.net_host.specs.Emitter.{TakesMessage, RefusesMessage}
@@ -21,7 +20,5 @@ pub data Polled : Context → ℕ → Client → Emitter → Client → Emitter 
 
 -- what a host relies on in its client: each message moves the due, and can be written
 pub record IsReady (client : Client) (ip_mtu : ℕ) : Type 0 where
-  pub timeout : 0 < client.retry.discover_timeout
-  pub mtu : 68 ≤ ip_mtu
-  pub options : AllByRecursion IsWritableOption client.options
-  pub size : 271 + length client.parameters + length (additional_bytes client.options) ≤ 65507
+  pub timeout : 0 < client.settings.retry.discover_timeout
+  pub writable : AreSettingsWritable client.settings ip_mtu

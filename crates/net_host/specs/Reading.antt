@@ -1,25 +1,53 @@
--- The events that a reader gives, as events of the script.
-use Rattle.std.specs.Prelude.{◌≡◌, ℕ, ◌<◌, List, ◌++◌, length, ℤ, pos, Option}
-use Rattle.std.specs.Io.KnownBytes.{Consumes}
+-- What a reader of events gives.
+use Rattle.std.specs.Prelude.{◌≡◌, ℕ, ◌<◌, ◌⊎◌, List, length, ℤ, pos, Option}
+use Rattle.std.specs.Io.KnownBytes.{Consumes, IsAtEnd}
 use Rattle.phy_layers.specs.PcapBytes.{epoch_micros}
-use Rattle.host_model.specs.Script.{Arrival, Tick, Event, spelled, IsNext}
+use Rattle.host_model.specs.Script.{Tick, Event, Spells, IsNext}
+use Rattle.host_model.specs.Parts.{IsInside, IsRefused}
 use Rattle.net_host.specs.declared.script.ScriptEvent.{ScriptEvent}
-use Rattle.net_host.specs.declared.script.ScriptEvent.TheVariants as read
+use Rattle.net_host.specs.declared.script.ScriptEvent.TheVariants as script
+use Rattle.net_host.specs.declared.script.ReadEventError.{ReadEventError}
+use Rattle.net_host.specs.declared.script.ReadEventError.TheVariants.{Script, Limit, Read}
+use Rattle.net_host.specs.ReaderState.{ReaderState, moved_by, through_with}
 
--- what an event brings
-abbrev pub arrival_of : ScriptEvent → Arrival
-arrival_of read.Tick = Tick
-
+-- a time, and what a reader gives at it, as an event of the script
 abbrev pub event_at : ℤ → ScriptEvent → Event
-event_at at event = record { at = epoch_micros at; arrival = arrival_of event }
+event_at at event = record { at = epoch_micros at; arrival = elim event [ script.Tick ↦ Tick ] }
 
--- there are bytes, and no front of them is an event that may follow one at the time `last`
-pub record BeginsNoEvent (last : ℕ) (bytes : List ℕ) : Type 0 where
-  pub goes_on : 0 < length bytes
-  pub no_event : (event : Event) (rest : List ℕ) → IsNext last event → bytes ≡ spelled event ++ rest → ⊥
-
--- an event that may follow one at the time `last`, whose bytes are no longer left
-pub record GivesEvent (last : ℕ) (left_old left_new : Option (List ℕ)) (at : ℤ) (event : ScriptEvent) : Type 0 where
-  pub next : IsNext last (event_at at event)
+-- The next event: it stood whole in front of what was left, and may come next.
+pub record GivesEvent (max : ℕ) (old new : ReaderState) (left_old left_new : Option (List ℕ))
+    (at : ℤ) (event : ScriptEvent) : Type 0 where
+  pub front : List ℕ
+  pub within : old.events < max
+  pub next : IsNext old.last (event_at at event)
   pub time : at ≡ pos (epoch_micros at)
-  pub took : Consumes left_old left_new (spelled (event_at at event))
+  pub spelled : Spells (event_at at event) front
+  pub took : Consumes left_old left_new front
+  pub moved : new ≡ moved_by max (length front) (epoch_micros at) old
+
+-- nothing was left
+pub record IsThrough (max : ℕ) (old new : ReaderState) (left_old left_new : Option (List ℕ)) : Type 0 where
+  pub was_at_end : IsAtEnd left_old
+  pub at_end : IsAtEnd left_new
+  pub stays : new ≡ through_with max old
+
+-- the input ended inside an event
+pub record EndsInside (last : ℕ) (left : Option (List ℕ)) (part : List ℕ) : Type 0 where
+  pub some : 0 < length part
+  pub inside : IsInside last part
+  pub at_end : IsAtEnd left
+
+-- What was taken behind the last event, by the answer: the parts up to the one that is refused, or all that there was of
+-- them; one byte; the parts before the failure.
+abbrev pub EndsWith : ReadEventError → ℕ → Option (List ℕ) → List ℕ → Type 0
+EndsWith (Script offset) last left part = IsRefused last part ⊎ EndsInside last left part
+EndsWith Limit last left part = length part ≡ 1
+EndsWith Read last left part = IsInside last part
+
+-- No event, by this answer: it took no more than it had to.
+pub record RefusesEvent (max : ℕ) (old new : ReaderState) (left_old left_new : Option (List ℕ))
+    (error : ReadEventError) : Type 0 where
+  pub part : List ℕ
+  pub took : Consumes left_old left_new part
+  pub ends : EndsWith error old.last left_new part
+  pub stays : new ≡ through_with max old

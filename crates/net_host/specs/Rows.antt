@@ -1,15 +1,13 @@
 -- What a report says of the events of a run.
 use Rattle.std.specs.Prelude.{◌≡◌, ℕ, List, [], ◌∷◌, Option, Some, None, pos}
-use Rattle.net_wire.specs.declared.address.EthernetAddress.{EthernetAddress}
 use Rattle.net_wire.specs.Datagram.{Datagram, IsSentFrame}
 use Rattle.net_wire.specs.DhcpBytes.{message_bytes}
 use Rattle.host_model.specs.Script.{Arrival, Tick, Event}
 use Rattle.host_model.specs.Settings.{Settings}
-use Rattle.host_model.specs.History.{Entry, Transmission}
+use Rattle.host_model.specs.History.{Entry, SentMessage, Transmission}
 use Rattle.host_model.specs.Anchor.{anchor_at}
 use Rattle.host_model.specs.Chronicle.{entry_at}
 use Rattle.host_model.specs.Lease.{leased_under}
-use Rattle.host_model.specs.Neighbor.{known_hop}
 use Rattle.net_host.specs.declared.report.Kind.{Kind}
 use Rattle.net_host.specs.declared.report.Kind.TheVariants as kind
 use Rattle.net_host.specs.declared.report.Mark.{Mark}
@@ -34,23 +32,21 @@ abbrev pub datagram_for : Settings → Transmission → Datagram
 datagram_for settings transmission = record {
   source = transmission.source;
   destination = transmission.destination;
-  source_port = settings.client_port;
-  destination_port = settings.server_port;
+  source_port = settings.client.client_port;
+  destination_port = settings.client.server_port;
   payload = message_bytes transmission.message;
 }
 
--- The one frame of a message, from the host's hardware address to the message's hop, with hop limit 64; without a message
--- there is none.
-pub record IsFrameOf (settings : Settings) (transmission : Transmission) (frames : List (List ℕ)) : Type 0 where
-  pub hop : EthernetAddress
+-- The one frame of a message that was sent, from the host's hardware address to the message's hop, with hop limit 64;
+-- without a message there is none.
+pub record IsFrameOf (settings : Settings) (sent : SentMessage) (frames : List (List ℕ)) : Type 0 where
   pub frame : List ℕ
-  pub known : known_hop transmission.destination ≡ Some hop
-  pub carries : IsSentFrame settings.hardware hop 64 (datagram_for settings transmission) frame
+  pub carries : IsSentFrame settings.hardware sent.hop 64 (datagram_for settings sent.transmission) frame
   pub one : frames ≡ frame ∷ []
 
-abbrev pub AreFramesOf : Settings → Option Transmission → List (List ℕ) → Type 0
+abbrev pub AreFramesOf : Settings → Option SentMessage → List (List ℕ) → Type 0
 AreFramesOf settings None frames = frames ≡ []
-AreFramesOf settings (Some transmission) frames = IsFrameOf settings transmission frames
+AreFramesOf settings (Some sent) frames = IsFrameOf settings sent frames
 
 -- The row of an event whose entry is this one: its time and kind, the address that is leased after it, and, marked as
 -- such, the one frame of its DHCP message, or none.

@@ -1,89 +1,157 @@
 -- What a run leaves, whatever it answers.
-use Rattle.std.specs.Prelude.{◌≡◌, ℕ, ◌*◌, ◌<◌, ◌≤◌, ◌⊎◌, ⊤, List, [], ◌∷◌, ◌++◌, Option, None, length, pos, IfSome, Result, IsOk}
+use Rattle.std.specs.Prelude.{◌≡◌, ℕ, ◌*◌, ◌<◌, ◌≤◌, ◌⊎◌, List, [], ◌∷◌, ◌++◌, Option, length, pos, IfSome, Result, IsOk}
 use Rattle.std.specs.Result.{IsErrOf}
-use Rattle.std.specs.Io.KnownBytes.{Appends, IsAtEnd}
+use Rattle.std.specs.Io.KnownBytes.{Appends, Consumes, IsAtEnd}
 use Rattle.wire_base.specs.Causes.{AppendsFront, IsRisen}
-use Rattle.host_model.specs.Script.{Event, spelling, AreInOrder, IsScript, IsOverLimit, IsBrokenAt}
+use Rattle.net_wire.specs.declared.address.Ipv4Cidr.{Ipv4Cidr}
+use Rattle.host_model.specs.Anchor.{anchor_before}
+use Rattle.host_model.specs.Chronicle.{history}
+use Rattle.host_model.specs.Lease.{leased_under}
+use Rattle.host_model.specs.Script.{Event, SpellsAll, AreInOrder, last_time}
+use Rattle.host_model.specs.Classes.{IsScript, BeginsWith, IsOverLimit, IsBrokenAt}
 use Rattle.host_model.specs.Settings.{Settings}
 use Rattle.net_host.specs.declared.report.Row.{Row}
+use Rattle.net_host.specs.declared.script.ReadEventError.{ReadEventError}
+use Rattle.net_host.specs.declared.script.ReadEventError.TheVariants as read
 use Rattle.net_host.specs.declared.run_script.RunError.{RunError}
 use Rattle.net_host.specs.declared.run_script.RunError.TheVariants.{Script, Limit, Words, Read, Sink, NoMemory}
+use Rattle.net_host.specs.Outside.{Outside, IsQuiet}
+use Rattle.net_host.specs.Reading.{EndsWith}
 use Rattle.net_host.specs.Report.{new_row}
 use Rattle.net_host.specs.Rows.{AreRows, kind_of}
 use Rattle.net_host.specs.Captured.{run_capture}
 
--- A run that ended well. The source was read to its end; where it told its bytes, they were a script of these events.
--- Each has its row, and the capture, where it is told, grew by its header and the frames of the rows.
-pub record Finished (settings : Settings) (words : List ℕ) (max : ℕ) (left_old left_new captured_old captured_new : Option (List ℕ))
-    (report : List Row) : Type 0 where
-  pub events : List Event
-  pub script : IfSome left_old (λ bytes. IsScript max bytes events)
-  pub in_order : AreInOrder 0 events
-  pub few : length events ≤ max
-  pub ended : IsAtEnd left_new
-  pub rows : AreRows settings words events report
-  pub captured : Appends captured_old captured_new (run_capture events report)
+-- what a run is told: the values of its host, the words of its events, and how many events there may be
+pub record Task : Type 0 where
+  pub settings : Settings
+  pub words : List ℕ
+  pub max : ℕ
 
--- A run that the script, the source or its words stopped: the events so far have their rows, and the capture is that of
--- the rows.
-pub record Stopped (settings : Settings) (words : List ℕ) (max : ℕ) (left_old captured_old captured_new : Option (List ℕ))
-    (report : List Row) : Type 0 where
+abbrev pub task_of : Settings → List ℕ → ℕ → Task
+task_of settings words max = record { settings = settings; words = words; max = max }
+
+-- The events are answered: each had three words and has its row, and the capture grew by its header and the frames of the
+-- rows.
+pub record AreAnswered (task : Task) (before after : Outside) (report : List Row)
+    (events : List Event) : Type 0 where
+  pub enough : 3 * length events ≤ length task.words
+  pub rows : AreRows task.settings task.words events report
+  pub captured : Appends before.captured after.captured (run_capture events report)
+
+-- A run that ended well. The source was read to its end; where it told its bytes, they were a script of these events, and
+-- all of them are answered.
+pub record Finished (task : Task) (before after : Outside) (report : List Row) : Type 0 where
   pub events : List Event
-  pub read : IfSome left_old (λ bytes. (more : List ℕ) × (bytes ≡ spelling events ++ more))
+  pub script : IfSome before.left (λ bytes. IsScript task.max bytes events)
   pub in_order : AreInOrder 0 events
-  pub few : length events ≤ max
-  pub rows : AreRows settings words events report
-  pub captured : Appends captured_old captured_new (run_capture events report)
+  pub few : length events ≤ task.max
+  pub ended : IsAtEnd after.left
+  pub answered : AreAnswered task before after report events
+
+-- What a run took from the source: events, whole and in order, of together `front`, and a part behind them.
+pub record Taken (task : Task) (before after : Outside) : Type 0 where
+  pub events : List Event
+  pub front : List ℕ
+  pub part : List ℕ
+  pub in_order : AreInOrder 0 events
+  pub few : length events ≤ task.max
+  pub spelled : SpellsAll events front
+  pub took : Consumes before.left after.left (front ++ part)
+
+-- the part behind the events is what the reader takes that answers so
+abbrev pub EndsBy : {task : Task} {before after : Outside} → ReadEventError → Taken task before after → Type 0
+EndsBy {task} {before} {after} error taken = EndsWith error (last_time 0 taken.events) after.left taken.part
+
+-- A run that stopped between two events, and ended so: all events that it took are answered.
+pub record Stopped (task : Task) (before after : Outside) (report : List Row)
+    (Ends : Taken task before after → Type 0) : Type 0 where
+  pub taken : Taken task before after
+  pub ends : Ends taken
+  pub answered : AreAnswered task before after report taken.events
+
+-- A run whose words ran out: it took one event more than are answered, and fewer than three words were left for it.
+pub record RanOut (task : Task) (before after : Outside) (report : List Row) : Type 0 where
+  pub taken : Taken task before after
+  pub whole : taken.part ≡ []
+  pub answered_events : List Event
+  pub event : Event
+  pub last : taken.events ≡ answered_events ++ event ∷ []
+  pub short : length task.words < 3 * length taken.events
+  pub answered : AreAnswered task before after report answered_events
+
+-- the address that is held when an event comes behind these
+abbrev pub lease_before : Task → List Event → Option Ipv4Cidr
+lease_before task events =
+    leased_under (anchor_before task.settings (history task.settings task.words events))
 
 -- the last row is that of an event in which nothing was sent yet
-pub record IsUnfinished (settings : Settings) (words : List ℕ) (events : List Event) (report : List Row) : Type 0 where
+pub record IsUnfinished (task : Task) (report : List Row) (events : List Event) : Type 0 where
   pub earlier : List Event
   pub event : Event
   pub done : List Row
   pub event_last : events ≡ earlier ++ event ∷ []
-  pub row_last : report ≡ done ++ new_row (pos event.at) (kind_of event.arrival) None ∷ []
-  pub rows : AreRows settings words earlier done
+  pub row_last : report
+      ≡ done ++ new_row (pos event.at) (kind_of event.arrival) (lease_before task earlier) ∷ []
+  pub rows : AreRows task.settings task.words earlier done
 
--- A run that the capture or want of memory stopped: the events so far have their rows, but for the last one, which may be
--- unfinished. The capture is a front of that of the rows.
-pub record Interrupted (settings : Settings) (words : List ℕ) (max : ℕ) (left_old captured_old captured_new : Option (List ℕ))
-    (report : List Row) : Type 0 where
-  pub events : List Event
-  pub read : IfSome left_old (λ bytes. (more : List ℕ) × (bytes ≡ spelling events ++ more))
-  pub in_order : AreInOrder 0 events
-  pub few : length events ≤ max
-  pub rows : AreRows settings words events report ⊎ IsUnfinished settings words events report
-  pub captured : AppendsFront captured_old captured_new (run_capture events report)
+-- the last event has no row yet
+pub record LacksRow (task : Task) (report : List Row) (events : List Event) : Type 0 where
+  pub earlier : List Event
+  pub event : Event
+  pub event_last : events ≡ earlier ++ event ∷ []
+  pub rows : AreRows task.settings task.words earlier report
 
--- A run whose words ran out: an event within the limit was read whole, and fewer than three words were left for it.
-pub record RanOut (words : List ℕ) (max : ℕ) (left_old : Option (List ℕ)) : Type 0 where
-  pub events : List Event
-  pub read : IfSome left_old (λ bytes. (more : List ℕ) × (bytes ≡ spelling events ++ more))
-  pub in_order : AreInOrder 0 events
-  pub few : length events ≤ max
-  pub short : length words < 3 * length events
+-- the events have their rows, but the last one may be unfinished
+abbrev pub HasRows : Task → List Row → List Event → Type 0
+HasRows task report events =
+    AreRows task.settings task.words events report ⊎ IsUnfinished task report events
+
+-- A run that stopped inside an event, or in front of the first one: it took whole events and nothing behind them, and the
+-- capture is a front of that of the rows.
+pub record Interrupted (task : Task) (before after : Outside) (report : List Row)
+    (Rows : List Event → Type 0) : Type 0 where
+  pub taken : Taken task before after
+  pub whole : taken.part ≡ []
+  pub rows : Rows taken.events
+  pub captured : AppendsFront before.captured after.captured (run_capture taken.events report)
 
 -- what a run leaves that did not end well, by its answer
-abbrev pub Leaves : Settings → List ℕ → ℕ → Option (List ℕ) → Option (List ℕ) → Option (List ℕ) → List Row → RunError → Type 0
-Leaves settings words max left_old captured_old captured_new report (Script offset) = Stopped settings words max left_old captured_old captured_new report
-Leaves settings words max left_old captured_old captured_new report Limit = Stopped settings words max left_old captured_old captured_new report
-Leaves settings words max left_old captured_old captured_new report Words = Stopped settings words max left_old captured_old captured_new report
-Leaves settings words max left_old captured_old captured_new report Read = Stopped settings words max left_old captured_old captured_new report
-Leaves settings words max left_old captured_old captured_new report Sink = Interrupted settings words max left_old captured_old captured_new report
-Leaves settings words max left_old captured_old captured_new report NoMemory = Interrupted settings words max left_old captured_old captured_new report
+abbrev pub Leaves : Task → Outside → Outside → List Row → RunError → Type 0
+Leaves task before after report (Script offset) =
+    Stopped task before after report
+    (λ taken. (offset ≡ length taken.front) × EndsBy (read.Script offset) taken)
+Leaves task before after report Limit =
+    Stopped task before after report (λ taken. (length taken.events ≡ task.max) × EndsBy read.Limit taken)
+Leaves task before after report Words = RanOut task before after report
+Leaves task before after report Read = Stopped task before after report (EndsBy read.Read)
+Leaves task before after report Sink = Interrupted task before after report (HasRows task report)
+Leaves task before after report NoMemory =
+    Interrupted task before after report (λ events. HasRows task report events ⊎ LacksRow task report events)
+
+-- the script begins with events within the limit, and there are fewer than three words for each
+pub record HasFewWords (task : Task) (before : Outside) : Type 0 where
+  pub events : List Event
+  pub few : length events ≤ task.max
+  pub short : length task.words < 3 * length events
+  pub read : IfSome before.left (λ bytes.
+      (front : List ℕ) × (more : List ℕ) × BeginsWith events front more bytes)
 
 -- Why a run did not end well, by its answer: the bytes of the script, the words, or a count of faults that rose; want of
--- memory is free.
-abbrev pub HasCause : List ℕ → ℕ → Option (List ℕ) → ℕ → ℕ → ℕ → ℕ → RunError → Type 0
-HasCause words max left_old read_old read_new captured_old captured_new (Script offset) = IfSome left_old (λ bytes. IsBrokenAt max bytes offset)
-HasCause words max left_old read_old read_new captured_old captured_new Limit = IfSome left_old (IsOverLimit max)
-HasCause words max left_old read_old read_new captured_old captured_new Words = RanOut words max left_old
-HasCause words max left_old read_old read_new captured_old captured_new Read = IsRisen read_old read_new
-HasCause words max left_old read_old read_new captured_old captured_new Sink = IsRisen captured_old captured_new
-HasCause words max left_old read_old read_new captured_old captured_new NoMemory = ⊤
+-- memory is free. No other count of faults changed.
+abbrev pub HasCause : Task → Outside → Outside → RunError → Type 0
+HasCause task before after (Script offset) =
+    IfSome before.left (λ bytes. IsBrokenAt task.max bytes offset) × IsQuiet before after
+HasCause task before after Limit = IfSome before.left (IsOverLimit task.max) × IsQuiet before after
+HasCause task before after Words = HasFewWords task before × IsQuiet before after
+HasCause task before after Read =
+    IsRisen before.read_faults after.read_faults × (after.capture_faults ≡ before.capture_faults)
+HasCause task before after Sink =
+    IsRisen before.capture_faults after.capture_faults × (after.read_faults ≡ before.read_faults)
+HasCause task before after NoMemory = IsQuiet before after
 
 -- A run of a valid script, with three words an event and no fault of source or capture, ends well unless memory runs out.
-abbrev pub Completes : List ℕ → ℕ → Option (List ℕ) → ℕ → ℕ → ℕ → ℕ → Result (Unit {0}) RunError → Type 0
-Completes words max left_old read_old read_new captured_old captured_new result =
-    IfSome left_old (λ bytes. (events : List Event) → IsScript max bytes events → 3 * length events ≤ length words
-    → ¬ IsRisen read_old read_new → ¬ IsRisen captured_old captured_new → IsOk result ⊎ IsErrOf result NoMemory)
+abbrev pub Completes : Task → Outside → Outside → Result (Unit {0}) RunError → Type 0
+Completes task before after result = IfSome before.left (λ bytes. (events : List Event)
+    → IsScript task.max bytes events
+    → 3 * length events ≤ length task.words → ¬ IsRisen before.read_faults after.read_faults
+    → ¬ IsRisen before.capture_faults after.capture_faults → IsOk result ⊎ IsErrOf result NoMemory)

@@ -15,11 +15,14 @@ pub record Gave {S : Type 0} (left : S → Option (List ℕ)) (faults : S → �
   pub err : OnErr result (Keeps (left old) (left new))
   pub cause : OnErr result ((faults old ≤ faults new) × IsRisen (faults old) (faults new))
 
--- Reads until `into` is full: it holds the bytes that the source lost, or the input ended before.
+-- Reads until `into` is full: it holds the bytes that the source lost, or the input ended, or the source failed, before.
 pub record Filled {S : Type 0} (left : S → Option (List ℕ)) (faults : S → ℕ) (result : Result Bool ReadFault) (into : List ℕ)
     (old new : S) : Type 0 where
   pub bytes : (i : ℕ) → slice_index into i < 256
   pub full : result ≡ Ok true → Consumes (left old) (left new) into
-  pub short : result ≡ Ok false → (front : List ℕ) × (length front < length into) × Consumes (left old) (left new) front × IsAtEnd (left new)
+  pub short : result ≡ Ok false
+      → (front : List ℕ) × (length front < length into) × Consumes (left old) (left new) front × IsAtEnd (left new)
+  pub failed : OnErr result (
+      (front : List ℕ) × (length front < length into) × Consumes (left old) (left new) front)
   pub quiet : OnOk result (faults new ≡ faults old)
   pub cause : OnErr result ((faults old ≤ faults new) × IsRisen (faults old) (faults new))

@@ -1,10 +1,11 @@
 //! What a host is told once.
 ghost use Rattle.std.specs.Prelude.{◌≡◌, ◌↔◌, IfOk, IfErr, OnOk};
 ghost use Rattle.std.specs.Result.{IsErrOf};
+ghost use Rattle.dhcp_client.specs.Config.{client_settings};
 ghost use Rattle.net_host.specs.Config.{settings_of, CanRun, HasDefaults, HasGroupAddress};
 ghost use Rattle.net_host.specs.declared.config.HostConfigError.TheVariants.{Hardware};
 
-use dhcp_client::RetryConfig;
+use dhcp_client::{ClientConfig, RetryConfig};
 use net_wire::{DhcpOption, Duration, EthernetAddress};
 use std::marker::Model;
 
@@ -53,18 +54,10 @@ pub enum HostConfigError {
 pub struct HostConfig<'a> {
     hardware: EthernetAddress,
     ip_mtu: u16,
-    retry: RetryConfig,
-    server_port: u16,
-    client_port: u16,
-    max_lease: Option<Duration>,
-    ignore_naks: bool,
-    parameters: &'a [u8],
-    options: &'a [DhcpOption<'a>],
+    client: ClientConfig<'a>,
 }
 
 impl<'a> Model for HostConfig<'a> {
-    ghost use Rattle.std.specs.Prelude.{map};
-    ghost use Rattle.net_wire.specs.DhcpMessage.{option_value};
     ghost use Rattle.host_model.specs.Settings.{Settings};
 
     ghost Value = { Settings };
@@ -102,13 +95,15 @@ impl<'a> HostConfig<'a> {
         Ok(HostConfig {
             hardware,
             ip_mtu,
-            retry,
-            server_port,
-            client_port,
-            max_lease,
-            ignore_naks,
-            parameters,
-            options,
+            client: ClientConfig {
+                retry,
+                server_port,
+                client_port,
+                max_lease,
+                ignore_naks,
+                parameters,
+                options,
+            },
         })
     }
 
@@ -125,5 +120,20 @@ impl<'a> HostConfig<'a> {
         ensures { result ≡ self.now.ip_mtu }
     {
         self.ip_mtu
+    }
+
+    /// What the DHCP client is told.
+    pub(crate) fn client(&self) -> ClientConfig<'a>
+        ensures { client_settings result ≡ self.now.client }
+    {
+        ClientConfig {
+            retry: self.client.retry,
+            server_port: self.client.server_port,
+            client_port: self.client.client_port,
+            max_lease: self.client.max_lease,
+            ignore_naks: self.client.ignore_naks,
+            parameters: self.client.parameters,
+            options: self.client.options,
+        }
     }
 }

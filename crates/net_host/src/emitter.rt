@@ -4,7 +4,6 @@ ghost use Rattle.net_wire.specs.declared.protocol.IpProtocol.TheVariants.{Udp};
 ghost use Rattle.net_wire.specs.DhcpMessage.{message_of};
 ghost use Rattle.net_wire.specs.DhcpBytes.{message_bytes, IsWritable};
 ghost use Rattle.net_wire.specs.Datagram.{IsSentFrame, datagram_of};
-ghost use Rattle.host_model.specs.Neighbor.{known_hop};
 
 use crate::{Mark, Sent, SentList};
 use dhcp_client::DhcpEmit;
@@ -24,14 +23,18 @@ pub(crate) struct Emitter {
     pub sent: SentList,
 }
 
-/// The hardware address of the next hop, where it is known.
-fn next_hop(destination: Ipv4Address) -> Option<EthernetAddress>
-    ensures { result ≡ known_hop destination }
-{
-    if destination == Ipv4Address::BROADCAST {
-        Some(EthernetAddress::BROADCAST)
-    } else {
-        None
+impl Emitter {
+    ghost use Rattle.net_host.specs.Emitter.{hop_by};
+
+    /// The hardware address of the next hop, where it is known.
+    fn next_hop(&self, destination: Ipv4Address) -> Option<EthernetAddress>
+        ensures { result ≡ hop_by self.now destination }
+    {
+        if destination == Ipv4Address::BROADCAST {
+            Some(EthernetAddress::BROADCAST)
+        } else {
+            None
+        }
     }
 }
 
@@ -84,7 +87,7 @@ impl DhcpEmit for Emitter {
     ghost refused = { RefusesMessage };
 
     fn emit(&mut self, ip: &Ipv4Repr, udp: &UdpRepr, dhcp: &DhcpRepr<'_>) -> Result<(), EmitError> {
-        let Some(hop) = next_hop(ip.dst_addr) else {
+        let Some(hop) = self.next_hop(ip.dst_addr) else {
             return Err(EmitError::Unresolved);
         };
         let eth = EthernetRepr {

@@ -9,7 +9,8 @@ ghost use Rattle.phy_layers.specs.PcapBytes.{IsCapturable};
 use crate::emitter::Emitter;
 use crate::{HostConfig, ScriptEvent, SentList};
 use dhcp_client::Socket;
-use net_wire::{Context, EmitError, EthernetAddress, Instant, NoMemory};
+use host_model::EventWords;
+use net_wire::{Context, EmitError, EthernetAddress, Instant, Ipv4Cidr, NoMemory};
 use std::alloc::Global;
 
 /// The state of a host between two events.
@@ -19,7 +20,18 @@ pub(crate) struct Host<'a> {
     pub hardware: EthernetAddress,
     /// The longest IPv4 datagram of the link, in bytes.
     pub ip_mtu: u16,
+    /// The leased address and its network's prefix; `None` without a lease.
+    pub lease: Option<Ipv4Cidr>,
     pub dhcp: Socket<'a>,
+}
+
+/// What an event brings about.
+#[derive(Debug, Drop)]
+pub(crate) struct Handled {
+    /// The address that is leased after the event.
+    pub lease: Option<Ipv4Cidr>,
+    /// The frames that were sent.
+    pub sent: SentList,
 }
 
 impl<'a> Host<'a> {
@@ -39,21 +51,22 @@ impl<'a> Host<'a> {
             alloc,
             hardware: config.hardware(),
             ip_mtu: config.ip_mtu(),
-            dhcp: Socket::new(),
+            lease: None,
+            dhcp: Socket::with_config(config.client()),
         }
     }
 
-    /// Takes an event in, and gives the frames that are sent in it. `word` is the first of its words.
+    /// Takes an event in, and gives the address that is leased then and the frames that are sent.
     pub fn handle(
         &mut self,
         at: Instant,
         event: ScriptEvent,
-        word: u32,
-    ) -> Result<SentList, NoMemory>
+        words: EventWords,
+    ) -> Result<Handled, NoMemory>
         requires ready { IsReady self.old.dhcp self.old.ip_mtu }
         requires time { IsCapturable at }
-        ensures value { IfOk result (HandlesEvent at event word self.old self.new) }
-        ensures within { IfOk result AreCapturable }
+        ensures value { IfOk result (HandlesEvent at event words self.old self.new) }
+        ensures within { IfOk result (λ handled. AreCapturable handled.sent) }
         ensures ready { IsReady self.new.dhcp self.new.ip_mtu }
     {
         match event {
@@ -69,8 +82,11 @@ impl<'a> Host<'a> {
             hardware: self.hardware,
             sent: SentList::new(self.alloc),
         };
-        poll_dhcp(&mut self.dhcp, &cx, word, &mut out)?;
-        Ok(out.sent)
+        poll_dhcp(&mut self.dhcp, &cx, words.first, &mut out)?;
+        Ok(Handled {
+            lease: self.lease,
+            sent: out.sent,
+        })
     }
 }
 

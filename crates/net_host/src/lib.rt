@@ -3,6 +3,7 @@
 
 pub mod config;
 mod emitter;
+pub mod event_reader;
 mod host;
 pub mod report;
 pub mod run_script;
@@ -11,6 +12,7 @@ pub mod source;
 pub mod sources;
 
 pub use config::{HostConfig, HostConfigError, HostValues};
+pub use event_reader::EventReader;
 pub use report::{Kind, Mark, Report, Row, Sent, SentList};
 pub use run_script::{RunError, run};
 pub use script::{ReadEventError, ScriptEvent};

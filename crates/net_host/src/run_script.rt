@@ -1,24 +1,24 @@
 //! A whole run: a script in, a capture and a report out.
-ghost use Rattle.std.specs.Prelude.{◌≡◌, ℕ, ◌+◌, ◌*◌, ◌<◌, ◌≤◌, ◌⊎◌, ℤ, List, [], ◌∷◌, ◌++◌, length, Option, pos, IfOk, IfErr, IfSome, IfNone, OnOk, OnErr};
+ghost use Rattle.std.specs.Prelude.{◌≡◌, ℕ, ◌+◌, ◌*◌, ◌<◌, ◌≤◌, ◌⊎◌, ℤ, List, [], length, IfErr, IfSome, IfNone, OnOk};
 ghost use Rattle.std.specs.Result.{IsErrOf};
-ghost use Rattle.std.specs.Io.KnownBytes.{Appends, Consumes};
-ghost use Rattle.wire_base.specs.Causes.{IsRisen, AppendsFront};
+ghost use Rattle.wire_base.specs.Causes.{IsRisen};
 ghost use Rattle.phy_layers.specs.Sink.{Took};
 ghost use Rattle.phy_layers.specs.PcapBytes.{epoch_micros, IsCapturable};
-ghost use Rattle.host_model.specs.Script.{spelled, IsScript};
-ghost use Rattle.host_model.specs.Chronicle.{first_word};
+ghost use Rattle.host_model.specs.Chronicle.{words_at};
 ghost use Rattle.net_host.specs.Captured.{sent_records};
 ghost use Rattle.net_host.specs.Report.{AreCapturable};
 ghost use Rattle.net_host.specs.Polling.{IsReady};
 ghost use Rattle.net_host.specs.Rows.{kind_of};
-ghost use Rattle.net_host.specs.Run.{Finished, Leaves, HasCause, Completes};
-ghost use Rattle.net_host.specs.Taking.{TakesEvent, LeavesEvent};
-ghost use Rattle.net_host.specs.Reading.{arrival_of, event_at};
-ghost use Rattle.net_host.specs.declared.report.Sent.{Sent};
+ghost use Rattle.net_host.specs.Outside.{outside_of, IsQuiet};
+ghost use Rattle.net_host.specs.Run.{task_of, Finished, Leaves, HasCause, Completes};
+ghost use Rattle.net_host.specs.Taking.{standing, TakesEvent, LeavesRow, LeavesEvent};
+ghost use Rattle.net_host.specs.Reading.{event_at};
 
 use crate::host::Host;
-use crate::script::next_event;
-use crate::{HostConfig, Kind, ReadEventError, Report, ScriptEvent, ScriptSource, Sent};
+use crate::{
+    EventReader, HostConfig, Kind, ReadEventError, Report, ScriptEvent, ScriptSource, Sent,
+};
+use host_model::EventWords;
 use net_wire::{Instant, NoMemory};
 use phy_layers::{PcapLinkType, PcapSink, SinkError};
 use std::alloc::Global;
@@ -80,22 +80,27 @@ impl From<NoMemory> for RunError {
     }
 }
 
-/// The first of the words of the event at a place, where all three are left.
-fn word_at(words: &[u32], place: u32) -> Option<u32>
-    ensures found { IfSome result (λ word. (word ≡ first_word words.now place) × (3 * (place + 1) ≤ length words.now)) }
+/// The words of the event at a place, where all three are left.
+fn words_at(words: &[u32], place: u32) -> Option<EventWords>
+    ensures found { IfSome result (λ drawn.
+        (drawn ≡ words_at words.now place) × (3 * (place + 1) ≤ length words.now)) }
     ensures refuses { IfNone result (length words.now < 3 * (place + 1)) }
 {
     let first = place as usize * 3;
     if words.len() < first + 3 {
         None
     } else {
-        Some(words[first])
+        Some(EventWords {
+            first: words[first],
+            second: words[first + 1],
+            third: words[first + 2],
+        })
     }
 }
 
 /// What a row says that an event was.
 fn kind_of(event: ScriptEvent) -> Kind
-    ensures { result ≡ kind_of (arrival_of event) }
+    ensures { (at : ℤ) → result ≡ kind_of (event_at at event).arrival }
 {
     match event {
         ScriptEvent::Tick => Kind::Tick,
@@ -106,7 +111,8 @@ fn kind_of(event: ScriptEvent) -> Kind
 fn capture_sent<C: PcapSink>(capture: &mut C, at: Instant, sent: &[Sent]) -> Result<(), SinkError>
     requires time { IsCapturable at }
     requires within { AreCapturable sent.now }
-    ensures { Took C.bytes C.faults C.grows result (sent_records (epoch_micros at) sent.now) capture.old capture.new }
+    ensures { Took C.bytes C.faults C.grows result
+        (sent_records (epoch_micros at) sent.now) capture.old capture.new }
 {
     for frame in sent {
         capture.packet(at, frame.frame.as_slice())?;
@@ -114,43 +120,38 @@ fn capture_sent<C: PcapSink>(capture: &mut C, at: Instant, sent: &[Sent]) -> Res
     Ok(())
 }
 
-/// Takes an event in: places its row, sends what it brings about, and captures that. `word` is the first of its words.
+/// Takes an event in: places its row, sends what it brings about, and captures that.
 fn take_event<C: PcapSink>(
     host: &mut Host<'_>,
     capture: &mut C,
     report: &mut Report,
     at: Instant,
     event: ScriptEvent,
-    word: u32,
+    words: EventWords,
 ) -> Result<(), RunError>
     requires ready { IsReady host.old.dhcp host.old.ip_mtu }
     requires time { IsCapturable at }
-    ensures ok { OnOk result
-        (TakesEvent at event word host.old host.new (C.bytes capture.old) (C.bytes capture.new) report.old report.new) }
-    ensures err { OnErr result
-        (LeavesEvent at event word host.old host.new (C.bytes capture.old) (C.bytes capture.new) report.old report.new) }
+    ensures ok { OnOk result (TakesEvent at event words
+        (standing host.old (C.bytes capture.old) report.old)
+        (standing host.new (C.bytes capture.new) report.new)) }
     ensures cause { IfErr result (λ e. (e ≡ RunError.Sink) ⊎ (e ≡ RunError.NoMemory)) }
-    ensures sink { IsErrOf result RunError.Sink → IsRisen (C.faults capture.old) (C.faults capture.new) }
+    ensures sink { IsErrOf result RunError.Sink → LeavesRow at event words
+        (standing host.old (C.bytes capture.old) report.old)
+        (standing host.new (C.bytes capture.new) report.new) }
+    ensures memory { IsErrOf result RunError.NoMemory → LeavesEvent at event words
+        (standing host.old (C.bytes capture.old) report.old)
+        (standing host.new (C.bytes capture.new) report.new) }
+    ensures risen { IsErrOf result RunError.Sink → IsRisen (C.faults capture.old) (C.faults capture.new) }
     ensures quiet { (IsErrOf result RunError.Sink → ⊥) → C.faults capture.new ≡ C.faults capture.old }
     ensures later { C.faults capture.old ≤ C.faults capture.new }
     ensures ready { IsReady host.new.dhcp host.new.ip_mtu }
 {
-    report.begin(host.alloc, at, kind_of(event), None)?;
-    let sent = host.handle(at, event, word)?;
-    let captured = capture_sent(capture, at, sent.as_slice());
-    report.fill_last(None, sent);
+    report.begin(host.alloc, at, kind_of(event), host.lease)?;
+    let handled = host.handle(at, event, words)?;
+    let captured = capture_sent(capture, at, handled.sent.as_slice());
+    report.fill_last(handled.lease, handled.sent);
     captured?;
     Ok(())
-}
-
-/// How many bytes an event takes on the script.
-fn script_len(event: ScriptEvent) -> u64
-    ensures value { (at : ℤ) → result ≡ length (spelled (event_at at event)) }
-    ensures within { result ≤ 65546 }
-{
-    match event {
-        ScriptEvent::Tick => 9,
-    }
 }
 
 /// Runs a script: answers each event as it is read, reports it and captures the frames. `words` has three words an event.
@@ -166,68 +167,38 @@ pub fn run<S: ScriptSource, C: PcapSink>(
     requires empty { report.old ≡ [] }
     requires some { 1 ≤ max_events }
     requires max { max_events ≤ 10000 }
-    // It ended well: each event of the script has its row, and the capture is that of the rows.
-    ensures finished { OnOk result (Finished config.now words.now max_events (S.left source.old) (S.left source.new)
-        (C.bytes capture.old) (C.bytes capture.new) report.new) }
-    ensures quiet { OnOk result ((S.faults source.new ≡ S.faults source.old) × (C.faults capture.new ≡ C.faults capture.old)) }
-    // It stopped: what is left, and why.
-    ensures leaves { IfErr result (Leaves config.now words.now max_events (S.left source.old)
-        (C.bytes capture.old) (C.bytes capture.new) report.new) }
-    ensures cause { IfErr result (HasCause words.now max_events (S.left source.old)
-        (S.faults source.old) (S.faults source.new) (C.faults capture.old) (C.faults capture.new)) }
-    ensures later { (S.faults source.old ≤ S.faults source.new) × (C.faults capture.old ≤ C.faults capture.new) }
+    // It ended well: each event of the script is answered.
+    ensures finished { OnOk result (Finished (task_of config.now words.now max_events)
+        (outside_of S.ScriptSource C.ByteSink source.old capture.old)
+        (outside_of S.ScriptSource C.ByteSink source.new capture.new) report.new) }
+    ensures quiet { OnOk result (IsQuiet (outside_of S.ScriptSource C.ByteSink source.old capture.old)
+        (outside_of S.ScriptSource C.ByteSink source.new capture.new)) }
+    // It stopped: what it took and left, and why.
+    ensures leaves { IfErr result (Leaves (task_of config.now words.now max_events)
+        (outside_of S.ScriptSource C.ByteSink source.old capture.old)
+        (outside_of S.ScriptSource C.ByteSink source.new capture.new) report.new) }
+    ensures cause { IfErr result (HasCause (task_of config.now words.now max_events)
+        (outside_of S.ScriptSource C.ByteSink source.old capture.old)
+        (outside_of S.ScriptSource C.ByteSink source.new capture.new)) }
+    ensures later { (S.faults source.old ≤ S.faults source.new)
+        × (C.faults capture.old ≤ C.faults capture.new) }
     // It stops without a cause only where memory runs out.
-    ensures complete { Completes words.now max_events (S.left source.old)
-        (S.faults source.old) (S.faults source.new) (C.faults capture.old) (C.faults capture.new) result }
+    ensures complete { Completes (task_of config.now words.now max_events)
+        (outside_of S.ScriptSource C.ByteSink source.old capture.old)
+        (outside_of S.ScriptSource C.ByteSink source.new capture.new) result }
 {
-    run_events(alloc, source, capture, config, words, max_events, report)
-}
-
-// Answers each event as it is read.
-fn run_events<S: ScriptSource, C: PcapSink>(
-    alloc: Global,
-    source: &mut S,
-    capture: &mut C,
-    config: &HostConfig<'_>,
-    words: &[u32],
-    max_events: u32,
-    report: &mut Report,
-) -> Result<(), RunError>
-    requires empty { report.old ≡ [] }
-    requires some { 1 ≤ max_events }
-    requires max { max_events ≤ 10000 }
-    ensures finished { OnOk result (Finished config.now words.now max_events (S.left source.old) (S.left source.new)
-        (C.bytes capture.old) (C.bytes capture.new) report.new) }
-    ensures quiet { OnOk result ((S.faults source.new ≡ S.faults source.old) × (C.faults capture.new ≡ C.faults capture.old)) }
-    ensures leaves { IfErr result (Leaves config.now words.now max_events (S.left source.old)
-        (C.bytes capture.old) (C.bytes capture.new) report.new) }
-    ensures cause { IfErr result (HasCause words.now max_events (S.left source.old)
-        (S.faults source.old) (S.faults source.new) (C.faults capture.old) (C.faults capture.new)) }
-    ensures later { (S.faults source.old ≤ S.faults source.new) × (C.faults capture.old ≤ C.faults capture.new) }
-{
+    let mut reader = EventReader::new(alloc)?;
     capture.global_header(PcapLinkType::Ethernet)?;
     let mut host = Host::new(alloc, config);
-    let mut last_micros = 0;
-    let mut offset = 0;
     for count in 0..max_events + 1 {
-        let Some(next) = next_event(source, last_micros, offset, count == max_events)? else {
+        let Some(next) = reader.next(source, max_events)? else {
             return Ok(());
         };
         let (at, event) = next;
-        let Some(word) = word_at(words, count) else {
+        let Some(drawn) = words_at(words, count) else {
             return Err(RunError::Words);
         };
-        take_event(&mut host, capture, report, at, event, word)?;
-        last_micros = micros_of(at);
-        offset += script_len(event);
+        take_event(&mut host, capture, report, at, event, drawn)?;
     }
     unreachable!()
-}
-
-/// The microseconds of a time of a script.
-fn micros_of(at: Instant) -> u64
-    requires { IsCapturable at }
-    ensures { result ≡ epoch_micros at }
-{
-    at.total_micros() as u64
 }

@@ -1,4 +1,10 @@
 pub mod DatagramLemmas
+pub mod DhcpFoundLemmas
+pub mod DhcpMessageLemmas
+pub mod DhcpReadLemmas
+pub mod DhcpServersLemmas
 pub mod SentFrameLemmas
 pub mod DnsNameLemmas
 pub mod DnsQueryLemmas
+pub mod ProtocolLemmas
+pub mod PrettyLemmas

@@ -1,6 +1,9 @@
 pub mod Datagram
 pub mod DhcpBytes
+pub mod DhcpFound
 pub mod DhcpMessage
+pub mod DhcpOptions
+pub mod DhcpRead
 pub mod Protocol
 pub mod Time
 pub mod IpAddress
@@ -9,3 +12,7 @@ pub mod DnsLabels
 pub mod DnsMessage
 pub mod DnsRead
 pub mod DnsExamples
+pub mod Unicast
+pub mod Pretty
+pub mod PrettyExamples
+pub mod PrettyIndent

@@ -21,6 +21,25 @@ impl Ipv4Address {
     pub const BROADCAST: Ipv4Address = Ipv4Address([255; 4]);
 }
 
+impl Ipv4Address {
+    ghost use Rattle.std.specs.Prelude.{◌≡◌};
+    ghost use Rattle.net_wire.specs.Unicast.{is_unicast, is_multicast};
+
+    /// Whether the address is that of one host.
+    pub fn is_unicast(self) -> bool
+        ensures { result ≡ is_unicast self }
+    {
+        self != Ipv4Address::UNSPECIFIED && self != Ipv4Address::BROADCAST && !self.is_multicast()
+    }
+
+    /// Whether the address is that of a group of hosts (RFC 1112, section 4).
+    fn is_multicast(self) -> bool
+        ensures { result ≡ is_multicast self }
+    {
+        self.0[0] >= 224 && self.0[0] <= 239
+    }
+}
+
 /// An IPv6 address, in network byte order (RFC 4291, section 2).
 #[derive(Clone, Copy, Debug, Default, PartialEq, Eq, Hash, PartialOrd, Ord)]
 pub struct Ipv6Address(pub [u8; 16]);

@@ -1,5 +1,6 @@
 //! Answers of the writers and emitters, and what the clients are told of the host.
 use crate::{EthernetAddress, Instant};
+use std::fmt;
 
 /// Memory ran out.
 #[derive(Clone, Copy, Debug, PartialEq, Eq)]
@@ -37,3 +38,19 @@ impl From<NoMemory> for EmitError {
         EmitError::NoMemory
     }
 }
+
+/// A packet is too short for its header, or the header's own length is wrong.
+#[derive(Clone, Copy, Debug, PartialEq, Eq)]
+pub struct Error;
+
+impl fmt::Display for Error {
+    ghost use Rattle.std.specs.Prelude.{Some, codes};
+
+    ghost output = { λ _. Some (codes "wire::Error") };
+
+    fn fmt<W: fmt::Write>(&self, f: &mut fmt::Formatter<W>) -> fmt::Result {
+        write!(f, "wire::Error")
+    }
+}
+
+impl std::error::Error for Error {}

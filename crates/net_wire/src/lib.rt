@@ -9,6 +9,7 @@ pub mod ethernet;
 pub mod ip;
 pub mod ipv4;
 pub mod laws;
+pub mod pretty;
 pub mod protocol;
 #[cfg(test)]
 mod tests;
@@ -17,7 +18,7 @@ pub mod udp;
 
 pub use address::{EthernetAddress, IpAddress, Ipv4Address, Ipv4Cidr, Ipv6Address};
 pub use dhcp::{DhcpMessageType, DhcpOption, DhcpRepr};
-pub use error::{Context, EmitError, Malformed, NoMemory};
+pub use error::{Context, EmitError, Error, Malformed, NoMemory};
 pub use ethernet::EthernetRepr;
 pub use ip::IpRepr;
 pub use ipv4::Ipv4Repr;

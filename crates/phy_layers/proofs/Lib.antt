@@ -1,2 +1,4 @@
 pub mod SinkLemmas
 pub mod WriterLemmas
+pub mod FaultLemmas
+pub mod LayerLemmas

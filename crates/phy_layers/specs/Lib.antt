@@ -2,3 +2,13 @@ pub mod PcapBytes
 pub mod PcapLinkType
 pub mod Sink
 pub mod WriterState
+pub mod Device
+pub mod FaultRule
+pub mod MemoryState
+pub mod FaultLayer
+pub mod Loans
+pub mod CaptureLayer
+pub mod FuzzLayer
+pub mod TracerLayer
+pub mod TracerText
+pub mod FaultLaw

@@ -112,25 +112,10 @@ impl<'a> IpAuthHeaderSlice<'a> {
     }
 }
 
-/// The fields of a header.
-pub(crate) fn header_of(bytes: &[u8]) -> IpAuthHeader
-    requires room { 12 ≤ length bytes.now }
-    requires within { length bytes.now ≤ 1028 }
-    ensures value { result ≡ auth_header bytes.now }
-{
-    IpAuthHeader {
-        next_header: IpNumber(bytes[0]),
-        spi: read_be32(bytes, 4),
-        sequence_number: read_be32(bytes, 8),
-        icv: bounded_bytes(&bytes[12..]),
-    }
-}
-
 /// The length of the header that a slice begins with.
-pub(crate) fn accepted_len(slice: &[u8]) -> Result<usize, HeaderSliceError>
-    ensures value { Reads auth_slice_form slice.now result
+fn accepted_len(slice: &[u8]) -> Result<usize, HeaderSliceError>
+    ensures { Reads auth_slice_form slice.now result
         (λ len. len ≡ header_len auth_slice_form slice.now) }
-    ensures within { IfOk result (λ len. (12 ≤ len) × (len ≤ 1028)) }
 {
     let wrong_len = |required_len: usize| {
         let (layer, source) = (Layer::IpAuthHeader, LenSource::Slice);

@@ -1,10 +1,11 @@
 //! Extension headers behind IP headers (RFC 4302; RFC 8200, section 4).
-ghost use Rattle.std.specs.Prelude.{◌≡◌};
+ghost use Rattle.std.specs.Prelude.{◌≡◌, Bool, length, slice_index};
 
 use crate::{
     IpAuthHeader, IpAuthHeaderSlice, Ipv4Header, Ipv6FragmentHeader, Ipv6FragmentHeaderSlice,
     Ipv6Header, Ipv6RawExtHeader, Ipv6RawExtHeaderSlice,
 };
+use ether_link::IpNumber;
 
 /// The extension headers behind an IPv4 header.
 #[derive(Clone, Debug, Drop, PartialEq, Eq)]
@@ -69,7 +70,7 @@ pub enum Ipv6ExtensionSlice<'a> {
 }
 
 impl<'a> Ipv6ExtensionSlice<'a> {
-    ghost use Rattle.ether_ip.specs.Extensions.{bytes_of_extension};
+    ghost use Rattle.ether_ip.specs.Extensions.{bytes_of_extension, fragmented_by};
 
     /// The bytes of the header.
     pub fn slice(&self) -> &'a [u8]
@@ -81,6 +82,29 @@ impl<'a> Ipv6ExtensionSlice<'a> {
             Ipv6ExtensionSlice::Fragment(header) => header.slice(),
             Ipv6ExtensionSlice::DestinationOptions(header) => header.slice(),
             Ipv6ExtensionSlice::Authentication(header) => header.slice(),
+        }
+    }
+
+    /// What stands behind the header.
+    pub fn next_header(&self) -> IpNumber
+        ensures value { result.0 ≡ slice_index (bytes_of_extension self.now) 0 }
+    {
+        match self {
+            Ipv6ExtensionSlice::HopByHop(header) => header.next_header(),
+            Ipv6ExtensionSlice::Routing(header) => header.next_header(),
+            Ipv6ExtensionSlice::Fragment(header) => header.next_header(),
+            Ipv6ExtensionSlice::DestinationOptions(header) => header.next_header(),
+            Ipv6ExtensionSlice::Authentication(header) => header.next_header(),
+        }
+    }
+
+    /// What the packet carries is a fragment, as this header says or those before it.
+    pub fn is_fragmenting_behind(&self, before: bool) -> bool
+        ensures value { result ≡ fragmented_by before self.now }
+    {
+        match self {
+            Ipv6ExtensionSlice::Fragment(header) => before || header.is_fragmenting_payload(),
+            _ => before,
         }
     }
 }

@@ -46,6 +46,24 @@ impl<'a> Ipv6ExtensionsSlice<'a> {
         (headers, end.number, &slice[end.at..], stop)
     }
 
+    /// The headers that a reader found one behind another: the number of the first one, if there is
+    /// one, whether the packet carries a fragment as they say, and their bytes.
+    pub fn from_headers(
+        first_header: Option<IpNumber>,
+        fragmented: bool,
+        slice: &'a [u8],
+    ) -> Ipv6ExtensionsSlice<'a>
+        ensures first { first_header_of result ≡ first_header }
+        ensures fragmented { is_fragmenting result ≡ fragmented }
+        ensures bytes { bytes_of_extensions result ≡ slice.now }
+    {
+        Ipv6ExtensionsSlice {
+            first_header,
+            fragmented,
+            slice,
+        }
+    }
+
     /// The number of the first header, if there is one.
     pub fn first_header(&self) -> Option<IpNumber>
         ensures value { result ≡ first_header_of self.now }

@@ -99,25 +99,17 @@ impl<'a> Ipv6FragmentHeaderSlice<'a> {
     pub fn to_header(&self) -> Ipv6FragmentHeader
         ensures value { result ≡ fragment_header self.now }
     {
-        header_of(self.slice)
-    }
-}
-
-/// The fields of a header.
-pub(crate) fn header_of(bytes: &[u8]) -> Ipv6FragmentHeader
-    requires { 8 ≤ length bytes.now }
-    ensures value { result ≡ fragment_header bytes.now }
-{
-    Ipv6FragmentHeader {
-        next_header: IpNumber(bytes[0]),
-        fragment_offset: read_be16(bytes, 2) / 8,
-        more_fragments: read_flag(bytes, 3, 0),
-        identification: read_be32(bytes, 4),
+        Ipv6FragmentHeader {
+            next_header: self.next_header(),
+            fragment_offset: self.fragment_offset(),
+            more_fragments: self.more_fragments(),
+            identification: self.identification(),
+        }
     }
 }
 
 /// The length of the header that a slice begins with.
-pub(crate) fn accepted_len(slice: &[u8]) -> Result<usize, LenError>
+fn accepted_len(slice: &[u8]) -> Result<usize, LenError>
     ensures value { Reads (fragment_form no_map) slice.now result
         (λ len. len ≡ header_len (fragment_form no_map) slice.now) }
     ensures within { IfOk result (λ len. len ≡ 8) }

@@ -1,5 +1,6 @@
 //! The headers of an IP packet as structs, whether all of the packet is there or not.
-ghost use Rattle.std.specs.Prelude.{◌≡◌, ◌≤◌, length};
+ghost use Rattle.std.specs.Prelude.{◌≡◌, ◌≤◌, length, option_map};
+ghost use Rattle.ether_ip.specs.Auth.{auth_header};
 ghost use Rattle.ether_link.specs.Form.{Reads, IsHeader};
 ghost use Rattle.ether_ip.specs.Ip.{ip_slice_form};
 ghost use Rattle.ether_ip.specs.IpHeaders.{number_in, extension_in, is_fragment_in, headers_with, refusal_in, IsReadOf};
@@ -10,8 +11,8 @@ use crate::err::ipv6_exts;
 use crate::ip::chain::first_extension_kind;
 use crate::ip::held::{Behind, HeldEnd, held_end};
 use crate::{
-    IpHeaders, Ipv4Extensions, Ipv4HeaderSlice, Ipv6Extensions, Ipv6HeaderSlice, LaxIpPayloadSlice,
-    ip_header_len, ip_window,
+    ExtensionPlaces, IpAuthHeaderSlice, IpHeaders, Ipv4Extensions, Ipv4HeaderSlice,
+    Ipv6HeaderSlice, LaxIpPayloadSlice, ip_header_len, ip_window,
 };
 use ether_link::err::{Layer, LenError};
 use ether_link::{IpNumber, LenSource, PartKind};
@@ -67,12 +68,12 @@ impl IpHeaders {
             len_source: window.len_source,
             payload: &slice[behind.at..window.end],
         };
-        Ok((headers_with(header, held), payload, stop))
+        Ok((headers_with(header, &held), payload, stop))
     }
 }
 
 /// The number of what is behind a header.
-fn number_in(header: &[u8]) -> IpNumber
+pub fn number_in(header: &[u8]) -> IpNumber
     requires { 20 ≤ length header.now }
     ensures { result.0 ≡ number_in header.now }
 {
@@ -84,7 +85,7 @@ fn number_in(header: &[u8]) -> IpNumber
 }
 
 /// The extension header that a header names.
-fn extension_in(header: &[u8]) -> Option<PartKind>
+pub fn extension_in(header: &[u8]) -> Option<PartKind>
     requires { 20 ≤ length header.now }
     ensures { result ≡ extension_in header.now }
 {
@@ -98,7 +99,7 @@ fn extension_in(header: &[u8]) -> Option<PartKind>
 }
 
 /// The header says that the packet carries a fragment.
-fn is_fragment_in(header: &[u8]) -> bool
+pub fn is_fragment_in(header: &[u8]) -> bool
     requires { 20 ≤ length header.now }
     ensures { result ≡ is_fragment_in header.now }
 {
@@ -107,20 +108,32 @@ fn is_fragment_in(header: &[u8]) -> bool
 
 /// A header and its extension headers.
 #[tactic(auto, using(crate::proofs::IpLemmas::accepted_ipv4, crate::proofs::IpLemmas::accepted_ipv6, crate::proofs::IpLemmas::same_ipv4_len, crate::proofs::IpLemmas::same_ipv6_len))]
-fn headers_with(header: &[u8], held: Ipv6Extensions) -> IpHeaders
+fn headers_with(header: &[u8], held: &ExtensionPlaces<'_>) -> IpHeaders
     requires { IsHeader ip_slice_form header.now }
-    ensures { result ≡ headers_with header.now held }
+    ensures { result ≡ headers_with header.now held.now }
 {
     if header[0] >> 4 == 4 {
         match Ipv4HeaderSlice::from_slice(header) {
-            Ok(header) => IpHeaders::Ipv4(header.to_header(), Ipv4Extensions { auth: held.auth }),
+            Ok(header) => IpHeaders::Ipv4(header.to_header(), auth_of(&held.auth)),
             Err(_) => unreachable!(),
         }
     } else {
         match Ipv6HeaderSlice::from_slice(header) {
-            Ok(header) => IpHeaders::Ipv6(header.to_header(), held),
+            Ok(header) => IpHeaders::Ipv6(header.to_header(), held.to_header()),
             Err(_) => unreachable!(),
         }
+    }
+}
+
+/// The fields of an authentication header, if there is one.
+fn auth_of(auth: &Option<IpAuthHeaderSlice<'_>>) -> Ipv4Extensions
+    ensures { result.auth ≡ option_map auth_header auth.now }
+{
+    match auth {
+        Some(auth) => Ipv4Extensions {
+            auth: Some(auth.to_header()),
+        },
+        None => Ipv4Extensions { auth: None },
     }
 }
 

@@ -1,7 +1,8 @@
 //! IP headers and their extensions.
 
 pub mod auth;
-mod chain;
+pub mod chain;
+pub mod ext_places;
 pub mod exts;
 pub mod exts_slice;
 pub mod fragment;

@@ -4,7 +4,7 @@ ghost use Rattle.std.specs.Prelude.{◌≡◌, ℕ, ◌+◌, ◌*◌, ◌≤◌,
 ghost use Rattle.std.specs.Cmp.Lexicographic.{pointwise, nat_list_eq_equiv};
 ghost use Rattle.std.specs.Cmp.{partial_equiv_from_equiv};
 ghost use Rattle.ether_link.specs.Form.{Reads, header_len, no_map};
-ghost use Rattle.ether_ip.specs.RawExt.{is_raw_ext, raw_ext_layer, raw_ext_form, raw_ext_header};
+ghost use Rattle.ether_ip.specs.RawExt.{raw_ext_layer, raw_ext_form, raw_ext_header};
 
 use arrayvec::ArrayVec;
 use ether_link::bounded::bounded_bytes;
@@ -40,13 +40,13 @@ impl<'a> Model for Ipv6RawExtHeaderSlice<'a> {
 
 impl<'a> Ipv6RawExtHeaderSlice<'a> {
     /// The header that a slice begins with, of a number that was given: 0 for hop-by-hop options, 43
-    /// for routing, 60 for destination options.
+    /// for routing, and any other one for destination options, whose own is 60. The number only says
+    /// which layer a length error names.
     #[tactic(auto, using(ether_link::proofs::FormLemmas::is_header))]
     pub fn from_slice(
         ip_number: IpNumber,
         slice: &'a [u8],
     ) -> Result<Ipv6RawExtHeaderSlice<'a>, LenError>
-        requires { IsTrue (is_raw_ext ip_number.0) }
         ensures { Reads (raw_ext_form (raw_ext_layer ip_number.0) no_map) slice.now result
             (λ part. part
             ≡ take (header_len (raw_ext_form (raw_ext_layer ip_number.0) no_map) slice.now) slice.now) }
@@ -97,26 +97,7 @@ impl<'a> Ipv6RawExtHeaderSlice<'a> {
     }
 }
 
-/// The fields of a header.
-pub(crate) fn header_of(bytes: &[u8]) -> Ipv6RawExtHeader
-    requires room { 2 ≤ length bytes.now }
-    requires within { length bytes.now ≤ 2048 }
-    ensures value { result ≡ raw_ext_header bytes.now }
-{
-    Ipv6RawExtHeader {
-        next_header: IpNumber(bytes[0]),
-        payload: bounded_bytes(&bytes[2..]),
-    }
-}
-
-/// The number is that of hop-by-hop options, routing or destination options: 0, 43 or 60.
-pub fn is_raw_ext(ip_number: IpNumber) -> bool
-    ensures value { result ≡ is_raw_ext ip_number.0 }
-{
-    ip_number.0 == 0 || ip_number.0 == 43 || ip_number.0 == 60
-}
-
-/// What the header of a number is.
+/// The layer of a number.
 fn layer_of(ip_number: IpNumber) -> Layer
     ensures value { result ≡ raw_ext_layer ip_number.0 }
 {
@@ -128,10 +109,9 @@ fn layer_of(ip_number: IpNumber) -> Layer
 }
 
 /// The length of the header that a slice begins with.
-pub(crate) fn accepted_len(layer: Layer, slice: &[u8]) -> Result<usize, LenError>
+fn accepted_len(layer: Layer, slice: &[u8]) -> Result<usize, LenError>
     ensures value { Reads (raw_ext_form layer no_map) slice.now result
         (λ len. len ≡ header_len (raw_ext_form layer no_map) slice.now) }
-    ensures within { IfOk result (λ len. (8 ≤ len) × (len ≤ 2048)) }
 {
     if slice.len() < 8 {
         return Err(LenError::at_start(layer, LenSource::Slice, slice.len(), 8));

@@ -1,8 +1,8 @@
 //! The window of an IP packet: what of the bytes behind its header belongs to it.
 ghost use Rattle.std.specs.Prelude.{◌≡◌, ◌≤◌, length};
 ghost use Rattle.ether_link.specs.Layout.{window_end};
-ghost use Rattle.ether_link.specs.Places.{is_cut_off};
-ghost use Rattle.ether_ip.specs.IpWindow.{ip_announced, ip_source, source_of_length};
+ghost use Rattle.ether_link.specs.Places.{is_cut_off, source_of_length};
+ghost use Rattle.ether_ip.specs.IpWindow.{ip_announced, ip_source};
 
 use ether_link::LenSource;
 use wire_base::number::read_be16;
@@ -25,23 +25,40 @@ pub fn ip_window(header: &[u8], there: usize) -> IpWindow
     ensures source { result.len_source ≡ ip_source header.now 0 there }
     ensures incomplete { result.incomplete ≡ is_cut_off 0 there (ip_announced header.now) }
 {
+    let said = ip_announced(header);
+    if header[0] >> 4 == 4 {
+        window_by(said, LenSource::Ipv4HeaderTotalLen, there)
+    } else if there == 40 {
+        let payload_len = usize::from(read_be16(header, 4));
+        window_by(
+            Some(40 + payload_len),
+            LenSource::Ipv6HeaderPayloadLen,
+            there,
+        )
+    } else {
+        window_by(said, LenSource::Ipv6HeaderPayloadLen, there)
+    }
+}
+
+/// How many bytes header and payload have, as a header says, if it says so: a total length that has
+/// no room for the header says nothing, nor does a payload length of 0.
+pub fn ip_announced(header: &[u8]) -> Option<usize>
+    requires { 20 ≤ length header.now }
+    ensures value { result ≡ ip_announced header.now }
+{
     if header[0] >> 4 == 4 {
         let total_len = usize::from(read_be16(header, 2));
         if total_len < header.len() {
-            window_by(None, LenSource::Ipv4HeaderTotalLen, there)
+            None
         } else {
-            window_by(Some(total_len), LenSource::Ipv4HeaderTotalLen, there)
+            Some(total_len)
         }
     } else {
         let payload_len = usize::from(read_be16(header, 4));
-        if payload_len == 0 && there != 40 {
-            window_by(None, LenSource::Ipv6HeaderPayloadLen, there)
+        if payload_len == 0 {
+            None
         } else {
-            window_by(
-                Some(40 + payload_len),
-                LenSource::Ipv6HeaderPayloadLen,
-                there,
-            )
+            Some(40 + payload_len)
         }
     }
 }

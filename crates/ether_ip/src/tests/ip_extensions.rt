@@ -1,11 +1,11 @@
 //! Extension headers of known packets.
 
-use crate::ip::raw_ext::is_raw_ext;
 use crate::{
     IpAuthHeaderSlice, IpFragId, IpFragVersionSpecId, Ipv4ExtensionsSlice, Ipv6ExtensionSlice,
-    Ipv6FragmentHeaderSlice, Ipv6RawExtHeaderSlice,
+    Ipv6FragmentHeaderSlice, Ipv6RawExtHeaderSlice, MAX_IP_DEFRAG_LEN, MAX_IP_DEFRAG_LEN_U16,
 };
 use arrayvec::ArrayVec;
+use ether_link::err::Layer;
 use ether_link::{IpNumber, VlanId};
 use std::test::Fail;
 
@@ -55,16 +55,19 @@ fn lengths_count_eight_bytes(rt: HostRuntime) -> Result<(), Fail> {
 }
 
 #[test]
-fn six_numbers_are_told_apart(rt: HostRuntime) {
-    for (number, is_one) in [
-        (0, true),
-        (43, true),
-        (44, false),
-        (51, false),
-        (59, false),
-        (60, true),
+fn a_length_error_names_the_layer_of_the_number(rt: HostRuntime) {
+    for (number, layer) in [
+        (0, Layer::Ipv6HopByHopHeader),
+        (43, Layer::Ipv6RouteHeader),
+        (60, Layer::Ipv6DestOptionsHeader),
+        (135, Layer::Ipv6DestOptionsHeader),
     ] {
-        assert_eq!(rt; is_raw_ext(IpNumber(number)), is_one, "number {number}");
+        let refusal = Ipv6RawExtHeaderSlice::from_slice(IpNumber(number), &ROUTING[..7]);
+        assert_eq!(rt;
+            refusal.err().map(|error| error.layer),
+            Some(layer),
+            "number {number}"
+        );
     }
 }
 
@@ -127,4 +130,10 @@ fn fragments_of_two_channels_differ(rt: HostRuntime) -> Result<(), Fail> {
     assert!(rt; id_of(1u8).clone()? == id_of(1));
     assert!(rt; id_of(1u8) != id_of(2));
     Ok(())
+}
+
+/// The length fields of both versions have 16 bits.
+#[test]
+fn a_packet_has_at_most_65535_bytes(rt: HostRuntime) {
+    assert_eq!(rt; (MAX_IP_DEFRAG_LEN, MAX_IP_DEFRAG_LEN_U16), (65535, 65535));
 }

@@ -160,7 +160,7 @@ impl<'a> LinuxSllSlice<'a> {
 }
 
 /// What a protocol field means, where the kind of hardware is known.
-fn protocol_type(hardware: ArpHardwareId, protocol: u16) -> Option<LinuxSllProtocolType>
+pub fn protocol_type(hardware: ArpHardwareId, protocol: u16) -> Option<LinuxSllProtocolType>
     ensures { result ≡ protocol_type_of hardware.0 protocol }
 {
     match hardware {

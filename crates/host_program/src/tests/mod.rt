@@ -1,4 +1,5 @@
 //! Whole runs, against bytes and texts from outside.
+mod outside;
 mod plain;
 
 use crate::host_main::host_main;

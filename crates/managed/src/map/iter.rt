@@ -4,6 +4,7 @@ ghost use Rattle.std.specs.Iterator.{at_most, UpTo};
 ghost use Rattle.std.specs.Iterator.SizeHint.{IsWithinCount};
 ghost use Rattle.std.specs.Map.Iter.{TakesFirst, deref_pair};
 ghost use Rattle.managed.specs.SortedMap.{IsPacked, filled};
+ghost use Rattle.managed.specs.Walk.{AllFilled};
 
 use super::borrowed;
 use std::collections::btree_map;
@@ -35,10 +36,10 @@ impl<'a, K: Ord, V> Model for Iter<'a, K, V> {
 }
 
 // The pair of the first place, if it has one.
-fn next_place<'a, K, V>(places: &mut &'a [Option<(K, V)>]) -> Option<(&'a K, &'a V)>
-    requires { IsPacked places.old.now }
+pub(super) fn next_place<'a, K, V>(places: &mut &'a [Option<(K, V)>]) -> Option<(&'a K, &'a V)>
     ensures steps { TakesFirst deref_pair (filled places.old.now) result (filled places.new.now) }
-    ensures within { IsPacked places.new.now }
+    ensures within { IsPacked places.old.now → IsPacked places.new.now }
+    ensures full { AllFilled places.old.now → AllFilled places.new.now }
 {
     let all: &'a [Option<(K, V)>] = places;
     if all.is_empty() {

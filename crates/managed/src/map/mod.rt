@@ -1,9 +1,11 @@
 //! A sorted map, owned or borrowed.
-ghost use Rattle.std.specs.Prelude.{◌≡◌, ◌↔◌, [], None, length, IsTrue, IsErr, IfOk, IfErr, OnOk, OnErr};
-ghost use Rattle.std.specs.Option.{option_copied, option_copied_mut};
-ghost use Rattle.std.specs.Map.{remove_entry};
+ghost use Rattle.std.specs.Prelude.{◌≡◌, ◌↔◌, [], None, length, map, false, IsTrue, IsFalse, IsSome, IsErr, IfOk, IfErr, OnOk, OnErr};
+ghost use Rattle.std.specs.Fn.{FnOnceTakesAtMut};
+ghost use Rattle.std.specs.Option.{option_copied, option_copied_mut, option_map, ForSome};
+ghost use Rattle.std.specs.Map.{keys_of, remove_entry};
 ghost use Rattle.std.specs.Borrow.{sem};
 ghost use Rattle.std.specs.BTreeMap.{is_at};
+ghost use Rattle.std.specs.Ordering.{is_eq};
 ghost use Rattle.std.specs.BTreeMap.Range.{entries_between};
 ghost use Rattle.std.specs.Range.Bound.{bound_map};
 ghost use Rattle.managed.specs.declared.map.ManagedMap.TheVariants.{Borrowed, Owned};
@@ -15,6 +17,7 @@ mod loan;
 mod places;
 mod range;
 mod search;
+mod update;
 
 use crate::InsertError;
 pub use iter::Iter;
@@ -66,6 +69,7 @@ impl<'a, K: Ord, V> ManagedMap<'a, K, V> {
     ghost use Rattle.managed.specs.SortedMap.{pairs, value_at, inserted, IsFull, IsRefusal, IsSortedMap, KeepsStorage};
     ghost use Rattle.managed.specs.Walk.{pairs_to_write};
     ghost use Rattle.managed.specs.MapLoans.{lends_in_map};
+    ghost use Rattle.managed.specs.Updates.{IsUpdated, IsWrittenBy, Computes, Leaves};
     ghost use Rattle.managed.specs.WalkLoans.{KeepsTreeKeys, lends_walk};
 
     /// Whether the keys rise strictly and the empty places come last, as each other call but `clear`
@@ -176,6 +180,52 @@ impl<'a, K: Ord, V> ManagedMap<'a, K, V> {
         match self {
             ManagedMap::Borrowed(places) => borrowed::get_mut(places_behind(places), key),
             ManagedMap::Owned(tree) => value_in_tree(tree, key),
+        }
+    }
+
+    /// Calls a closure at each key and value, in key order, to write the values.
+    pub fn update<F: FnMut(&K, &mut V)>(&mut self, f: F)
+    where
+        K: Drop,
+        V: Drop,
+        requires sorted { IsSortedMap K.cmp self.old }
+        requires callable { F.IsAlwaysCallable f }
+
+        // Each value is what the call at its key left, as each call finds the closure. Where the closure
+        // makes of each pair what h says, so does the map.
+        ensures written { IsUpdated F.FnMut f (pairs self.old) (pairs self.new) }
+        ensures value { (h : K × V → K × V) → Computes F.FnMut f h → pairs self.new ≡ map h (pairs self.old) }
+        ensures keys { keys_of (pairs self.new) ≡ keys_of (pairs self.old) }
+        ensures within { KeepsStorage self.old self.new }
+        ensures sorted { IsSortedMap K.cmp self.new }
+    {
+        match self {
+            ManagedMap::Borrowed(places) => update::each_in_places(places, f),
+            ManagedMap::Owned(tree) => update::each_in_tree(tree, f),
+        }
+    }
+
+    /// Calls a closure at the value of a key, to write it, and tells whether the key is there.
+    pub fn write<F: FnOnce(&mut V)>(&mut self, key: &K, f: F) -> bool
+        requires sorted { IsSortedMap K.cmp self.old }
+        requires callable { ForSome (value_at K.cmp (pairs self.old) key.now) (FnOnceTakesAtMut F.FnOnce f) }
+        ensures found { IsTrue result ↔ IsSome (value_at K.cmp (pairs self.old) key.now) }
+
+        // The value is what the call left, and no other pair changes. Where the call leaves what h says
+        // of the value, so does the map.
+        ensures written { IsTrue result → IsWrittenBy F.FnOnce f K.cmp key.now (pairs self.old) (pairs self.new) }
+        ensures value { (h : V → V) → Leaves F.FnOnce f h
+            → value_at K.cmp (pairs self.new) key.now ≡ option_map h (value_at K.cmp (pairs self.old) key.now) }
+        ensures others { (other : K) → is_eq (K.cmp key.now other) ≡ false
+            → value_at K.cmp (pairs self.new) other ≡ value_at K.cmp (pairs self.old) other }
+        ensures empty { IsFalse result → pairs self.new ≡ pairs self.old }
+        ensures keys { keys_of (pairs self.new) ≡ keys_of (pairs self.old) }
+        ensures within { KeepsStorage self.old self.new }
+        ensures sorted { IsSortedMap K.cmp self.new }
+    {
+        match self {
+            ManagedMap::Borrowed(places) => update::one_in_places(places, key, f),
+            ManagedMap::Owned(tree) => update::one_in_tree(tree, key, f),
         }
     }
 

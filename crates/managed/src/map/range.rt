@@ -9,8 +9,11 @@ ghost use Rattle.managed.specs.Places.{IsCut};
 ghost use Rattle.managed.specs.Walk.{AllFilled, span_left, IsFilledSpan};
 
 use super::borrowed;
+use super::iter::next_place;
 use super::search::search;
+use std::alloc::AllocError;
 use std::collections::{BTreeMap, btree_map};
+use std::fmt;
 use std::iter::FusedIterator;
 use std::marker::Model;
 use std::ops::Bound;
@@ -40,25 +43,6 @@ impl<'a, K: Ord, V> Model for Range<'a, K, V> {
     ghost invariant = { λ a. IsFilledSpan a.span };
 }
 
-// The pair of the first of the places that all have one.
-fn next_place<'a, K, V>(places: &mut &'a [Option<(K, V)>]) -> Option<(&'a K, &'a V)>
-    requires { AllFilled places.old.now }
-    ensures steps { TakesFirst deref_pair (filled places.old.now) result (filled places.new.now) }
-    ensures within { AllFilled places.new.now }
-{
-    let all: &'a [Option<(K, V)>] = places;
-    if all.is_empty() {
-        return None;
-    }
-    match &all[0] {
-        Some((key, value)) => {
-            *places = &all[1..];
-            Some((key, value))
-        }
-        None => None,
-    }
-}
-
 // The pair of the last of the places that all have one.
 fn last_place<'a, K, V>(places: &mut &'a [Option<(K, V)>]) -> Option<(&'a K, &'a V)>
     requires { AllFilled places.old.now }
@@ -76,6 +60,35 @@ fn last_place<'a, K, V>(places: &mut &'a [Option<(K, V)>]) -> Option<(&'a K, &'a
             Some((key, value))
         }
         None => None,
+    }
+}
+
+impl<'a, K: Ord, V> Clone for Range<'a, K, V> {
+    ghost use Rattle.std.specs.Prelude.{⊤};
+
+    ghost is_clone = { λ s r. r ≡ s };
+
+    ghost is_infallible = { λ _. ⊤ };
+
+    fn clone(&self) -> Result<Range<'a, K, V>, AllocError> {
+        match &self.span {
+            Span::Borrowed(places) => Ok(Range {
+                span: Span::Borrowed(places),
+            }),
+            Span::Owned(pairs) => Ok(Range {
+                span: Span::Owned(pairs.clone()?),
+            }),
+        }
+    }
+}
+
+impl<'a, K: Ord + fmt::Debug, V: fmt::Debug> fmt::Debug for Range<'a, K, V> {
+    /// The list of the pairs that are left.
+    fn fmt<W: fmt::Write>(&self, f: &mut fmt::Formatter<W>) -> fmt::Result {
+        match self.clone() {
+            Ok(pairs) => f.debug_list().entries(pairs).finish(),
+            Err(_) => Err(fmt::Error),
+        }
     }
 }
 

@@ -1,5 +1,7 @@
 //! DHCP messages (RFC 2131, section 2; options by RFC 2132).
+pub mod kind;
 mod option;
+mod read;
 mod write;
 
 use crate::{EthernetAddress, Ipv4Address};

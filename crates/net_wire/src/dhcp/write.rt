@@ -3,12 +3,13 @@ ghost use Rattle.std.specs.Prelude.{◌≡◌, ◌≤◌, length, take};
 ghost use Rattle.net_wire.specs.DhcpMessage.{message_of};
 ghost use Rattle.net_wire.specs.DhcpBytes.{op_of, type_number, flags_of, header_bytes, options_bytes, message_bytes, IsWritable};
 
+use super::DhcpRepr;
+use super::kind::*;
 use super::option::{
     additional_len, address_len, addresses_len, append_additional, append_address, append_bytes,
     append_identifier, append_number16, append_number32, append_option, append_servers, bytes_len,
     identifier_len, number16_len, number32_len, servers_len,
 };
-use super::{DhcpMessageType, DhcpRepr};
 use wire_base::number::append;
 
 /// What begins the options (RFC 2131, section 3).
@@ -73,7 +74,7 @@ impl<'a> DhcpRepr<'a> {
         ensures end { result ≡ length (header_bytes (message_of self.now)) }
         ensures front { take result into.new ≡ header_bytes (message_of self.now) }
     {
-        let at = append(into, 0, &[op(self.message_type), 1, 6, 0]);
+        let at = append(into, 0, &[op(self.message_type.number()), 1, 6, 0]);
         let at = append(into, at, &self.transaction_id.to_be_bytes());
         let at = append(into, at, &self.secs.to_be_bytes());
         let at = append(into, at, &flags(self.broadcast).to_be_bytes());
@@ -92,32 +93,38 @@ impl<'a> DhcpRepr<'a> {
         requires room { length into.old ≡ length (options_bytes (message_of self.now)) }
         ensures { into.new ≡ options_bytes (message_of self.now) }
     {
-        let at = append_option(into, 0, 53, &[self.message_type.number()]);
+        let at = append_option(
+            into,
+            0,
+            OPT_DHCP_MESSAGE_TYPE,
+            &[self.message_type.number()],
+        );
         let at = append_identifier(into, at, self.client_identifier);
-        let at = append_address(into, at, 54, self.server_identifier);
-        let at = append_address(into, at, 3, self.router);
-        let at = append_address(into, at, 1, self.subnet_mask);
-        let at = append_address(into, at, 50, self.requested_ip);
-        let at = append_number16(into, at, 57, self.max_size);
-        let at = append_number32(into, at, 51, self.lease_duration);
-        let at = append_number32(into, at, 58, self.renew_duration);
-        let at = append_number32(into, at, 59, self.rebind_duration);
-        let at = append_bytes(into, at, 55, self.parameter_request_list);
+        let at = append_address(into, at, OPT_SERVER_IDENTIFIER, self.server_identifier);
+        let at = append_address(into, at, OPT_ROUTER, self.router);
+        let at = append_address(into, at, OPT_SUBNET_MASK, self.subnet_mask);
+        let at = append_address(into, at, OPT_REQUESTED_IP, self.requested_ip);
+        let at = append_number16(into, at, OPT_MAX_DHCP_MESSAGE_SIZE, self.max_size);
+        let at = append_number32(into, at, OPT_IP_LEASE_TIME, self.lease_duration);
+        let at = append_number32(into, at, OPT_RENEWAL_TIME_VALUE, self.renew_duration);
+        let at = append_number32(into, at, OPT_REBINDING_TIME_VALUE, self.rebind_duration);
+        let at = append_bytes(
+            into,
+            at,
+            OPT_PARAMETER_REQUEST_LIST,
+            self.parameter_request_list,
+        );
         let at = append_servers(into, at, &self.dns_servers);
         let at = append_additional(into, at, self.additional_options);
-        append(into, at, &[255]);
+        append(into, at, &[OPT_END]);
     }
 }
 
-/// The op by the type: 2, BOOTREPLY, for what servers send, else 1, BOOTREQUEST.
-fn op(message_type: DhcpMessageType) -> u8
-    ensures { result ≡ op_of (type_number message_type) }
+/// The op by the number of the type: 2, BOOTREPLY, for what servers send, else 1, BOOTREQUEST.
+pub(super) fn op(number: u8) -> u8
+    ensures { result ≡ op_of number }
 {
-    if matches!(message_type.number(), 2 | 5 | 6) {
-        2
-    } else {
-        1
-    }
+    if matches!(number, 2 | 5 | 6) { 2 } else { 1 }
 }
 
 /// The flags: the highest bit asks the server to broadcast.

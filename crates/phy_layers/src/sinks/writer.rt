@@ -149,4 +149,19 @@ mod tests {
         }
         Ok(())
     }
+
+    #[test]
+    fn takes_a_long_piece_to_its_end(rt: HostRuntime) -> Result<(), Fail> {
+        let alloc = rt.alloc();
+        let piece = vec![in alloc; 7; 70_000]?;
+        let mut sink = WriteSink::new(Narrow {
+            taken: Vec::new(alloc),
+            room: 80_000,
+            interrupts: 1,
+            fails: true,
+        });
+        assert_eq!(rt; sink.write(piece.as_slice()), Ok(()));
+        assert_eq!(rt; sink.inner.taken.as_slice(), piece.as_slice());
+        Ok(())
+    }
 }

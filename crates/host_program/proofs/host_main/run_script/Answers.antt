@@ -1,12 +1,65 @@
-use Rattle.std.proofs.Common.{length, ap, ◌∙◌}
-use Rattle.host_program.proofs.EndingLemmas.{nothing_run, never_short}
+use Rattle.std.proofs.Common.{length, ap, refl, ◌∙◌}
+use Rattle.net_host.specs.Outside.{outside_of}
+use Rattle.net_host.specs.Run.{task_of}
+use Rattle.net_host.specs.declared.run_script.RunError.TheVariants.{Script, Limit, Read, Sink, NoMemory}
+use Rattle.net_host.proofs.RefusedLemmas.{nothing_run}
+use Rattle.host_program.specs.HostMain.{task_named}
+use Rattle.host_program.proofs.EndingLemmas.{never_short}
+use Rattle.host_program.proofs.RanLemmas.{same_task, ran}
 use Rattle.host_program.proofs.WordLemmas.{length-first_words}
 use Rattle.host_program.proofs.host_main.run_script.Goals as goal
 
 pub returns-in_default : goal.returns-in_default
-returns-in_default g c = nothing_run _ _ _ _ _ _ c.requires.empty
+returns-in_default g c =
+    let before = outside_of g.S.ScriptSource g.C.ByteSink c.args.script.now c.args.capture.now in
+    (nothing_run (task_named c.args.command.now) before c.args.report.now c.requires.empty, record { source = refl; capture = refl })
 
 pub unreachable-requires : goal.unreachable-requires
 unreachable-requires g c =
     let counted = ap length (c.as_slice.ensures.value ∙ c.in-Ok.ensures.value) ∙ length-first_words _ _ in
-    never_short _ _ _ counted (rw c.in-Words.is at c.in-Err.ensures.cause)
+    never_short _ _ counted (rw c.in-Words.is at c.in-Err.ensures.cause).0
+
+pub returns-in-Script : goal.returns-in-Script
+returns-in-Script g c =
+    let same = same_task c.args.command.now c.config_of-config.result c.as_slice.result.now _ c.config_of-config.ensures
+    (c.as_slice.ensures.value ∙ c.in-Ok.ensures.value) refl in
+    ran c.args.command.now (task_of c.config_of-config.result c.as_slice.result.now c.args.command.now.max_events)
+    (outside_of g.S.ScriptSource g.C.ByteSink c.args.script.now c.args.capture.now)
+    (outside_of g.S.ScriptSource g.C.ByteSink c.run.new.source c.run.new.capture) c.run.new.report (Script c.in-Script.offset) same
+    (rw c.in-Script.is at c.in-Err.ensures.leaves) (rw c.in-Script.is at c.in-Err.ensures.cause)
+
+pub returns-in-Limit : goal.returns-in-Limit
+returns-in-Limit g c =
+    let same = same_task c.args.command.now c.config_of-config.result c.as_slice.result.now _ c.config_of-config.ensures
+    (c.as_slice.ensures.value ∙ c.in-Ok.ensures.value) refl in
+    ran c.args.command.now (task_of c.config_of-config.result c.as_slice.result.now c.args.command.now.max_events)
+    (outside_of g.S.ScriptSource g.C.ByteSink c.args.script.now c.args.capture.now)
+    (outside_of g.S.ScriptSource g.C.ByteSink c.run.new.source c.run.new.capture) c.run.new.report Limit same
+    (rw c.in-Limit.is at c.in-Err.ensures.leaves) (rw c.in-Limit.is at c.in-Err.ensures.cause)
+
+pub returns-in-Read : goal.returns-in-Read
+returns-in-Read g c =
+    let same = same_task c.args.command.now c.config_of-config.result c.as_slice.result.now _ c.config_of-config.ensures
+    (c.as_slice.ensures.value ∙ c.in-Ok.ensures.value) refl in
+    ran c.args.command.now (task_of c.config_of-config.result c.as_slice.result.now c.args.command.now.max_events)
+    (outside_of g.S.ScriptSource g.C.ByteSink c.args.script.now c.args.capture.now)
+    (outside_of g.S.ScriptSource g.C.ByteSink c.run.new.source c.run.new.capture) c.run.new.report Read same
+    (rw c.in-Read.is at c.in-Err.ensures.leaves) (rw c.in-Read.is at c.in-Err.ensures.cause)
+
+pub returns-in-Sink : goal.returns-in-Sink
+returns-in-Sink g c =
+    let same = same_task c.args.command.now c.config_of-config.result c.as_slice.result.now _ c.config_of-config.ensures
+    (c.as_slice.ensures.value ∙ c.in-Ok.ensures.value) refl in
+    ran c.args.command.now (task_of c.config_of-config.result c.as_slice.result.now c.args.command.now.max_events)
+    (outside_of g.S.ScriptSource g.C.ByteSink c.args.script.now c.args.capture.now)
+    (outside_of g.S.ScriptSource g.C.ByteSink c.run.new.source c.run.new.capture) c.run.new.report Sink same
+    (rw c.in-Sink.is at c.in-Err.ensures.leaves) (rw c.in-Sink.is at c.in-Err.ensures.cause)
+
+pub returns : goal.returns
+returns g c =
+    let same = same_task c.args.command.now c.config_of-config.result c.as_slice.result.now _ c.config_of-config.ensures
+    (c.as_slice.ensures.value ∙ c.in-Ok.ensures.value) refl in
+    ran c.args.command.now (task_of c.config_of-config.result c.as_slice.result.now c.args.command.now.max_events)
+    (outside_of g.S.ScriptSource g.C.ByteSink c.args.script.now c.args.capture.now)
+    (outside_of g.S.ScriptSource g.C.ByteSink c.run.new.source c.run.new.capture) c.run.new.report NoMemory same
+    (rw c.in-NoMemory.is at c.in-Err.ensures.leaves) (rw c.in-NoMemory.is at c.in-Err.ensures.cause)

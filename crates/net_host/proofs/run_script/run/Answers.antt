@@ -1,5 +1,155 @@
+-- The events so far stand, whatever comes of the next one.
+use Rattle.std.proofs.Common.{◌≡◌, ap, sym, subst, ◌∙◌, refl, arith, ⊎_elim, Err}
+use Rattle.std.proofs.lemmas.Result.{err_from_is_err_and}
+use Rattle.host_model.specs.Chronicle.{words_at}
+use Rattle.net_host.specs.declared.run_script.RunError.{RunError}
+use Rattle.net_host.specs.declared.run_script.RunError.TheVariants.{Words, Sink, NoMemory}
+use Rattle.net_host.specs.Outside.{outside_of}
+use Rattle.net_host.specs.ReaderState.{ReaderState}
+use Rattle.net_host.specs.Run.{task_of, Leaves}
 use Rattle.net_host.proofs.CompleteLemmas.{completes}
+use Rattle.net_host.proofs.ProgressLemmas.{starts, goes_on, ran_out}
+use Rattle.net_host.proofs.RefusedLemmas.{nothing_run, header_leaves, row_leaves, event_leaves}
+use Rattle.net_host.proofs.StoppedLemmas.{reading_leaves, reading_cause}
+use Rattle.net_host.proofs.WordLemmas.{few_words}
 use Rattle.net_host.proofs.run_script.run.Goals as goal
 
-pub returns-clause-complete : goal.returns-clause-complete
-returns-clause-complete g c = completes _ _ _ _ _ _ _ _ c.run_events.ensures.cause
+pub returns-in_err-reader-clause-leaves : goal.returns-in_err-reader-clause-leaves
+returns-in_err-reader-clause-leaves g c =
+    let refused = err_from_is_err_and c.from_residual.result c.from_residual.ensures.1 in
+    rw (refused.1, refused.2)
+    (nothing_run (task_of c.args.config.now c.args.words.now c.args.max_events)
+    (outside_of g.S.ScriptSource g.C.ByteSink c.args.source.now c.args.capture.now) c.args.report.now c.requires.empty)
+
+pub returns-in_err-global_header-clause-leaves : goal.returns-in_err-global_header-clause-leaves
+returns-in_err-global_header-clause-leaves g c =
+    let refused = err_from_is_err_and c.from_residual-in_err-global_header.result c.from_residual-in_err-global_header.ensures.1 in
+    rw (refused.1, refused.2)
+    (header_leaves (task_of c.args.config.now c.args.words.now c.args.max_events)
+    (outside_of g.S.ScriptSource g.C.ByteSink c.args.source.now c.args.capture.now)
+    (outside_of g.S.ScriptSource g.C.ByteSink c.args.source.now c.global_header.new.self) c.args.report.now c.in_err-global_header.field-0.0
+    c.requires.empty refl c.global_header.ensures.front)
+
+pub loop-count-init : goal.loop-count-init
+loop-count-init g c =
+    let started = starts (task_of c.args.config.now c.args.words.now c.args.max_events)
+    (outside_of g.S.ScriptSource g.C.ByteSink c.args.source.now c.args.capture.now)
+    (outside_of g.S.ScriptSource g.C.ByteSink c.args.source.now c.global_header.new.self) c.new-host.result c.args.report.now
+    c.requires.empty c.new-host.ensures.agrees (rw c.in_ok-global_header.was at c.global_header.ensures.whole) refl in
+    rw c.in_ok-reader.ensures.value (record {
+      progress = started;
+      quiet = record { source = refl; capture = rw c.in_ok-global_header.was at c.global_header.ensures.quiet };
+      counted = refl;
+      within = omega arith;
+      goes_on = refl;
+      limit = tt;
+      ready = c.new-host.ensures.ready;
+    })
+
+pub returns-in_err-next-clause-leaves : goal.returns-in_err-next-clause-leaves
+returns-in_err-next-clause-leaves g c =
+    let refused = err_from_is_err_and c.from_residual-in_err-next.result c.from_residual-in_err-next.ensures.1 in
+    let now = c.loop-count in
+    rw (refused.1, refused.2)
+    (reading_leaves (task_of c.args.config.now c.args.words.now c.args.max_events)
+    (outside_of g.S.ScriptSource g.C.ByteSink c.args.source.now c.args.capture.now) (outside_of g.S.ScriptSource g.C.ByteSink now.source now.capture)
+    (outside_of g.S.ScriptSource g.C.ByteSink c.next.new.source now.capture) now.reader c.next.new.self now.host now.report c.in_err-next.field-0.0
+    now.invariant.progress c.in_err-next.ensures.err
+    (record { script = c.in_err-next.ensures.script; limit = λ is. c.in_err-next.ensures.limit (ap (λ e. Err e) is) }) refl)
+
+pub returns-in_err-next-clause-cause : goal.returns-in_err-next-clause-cause
+returns-in_err-next-clause-cause g c =
+    let refused = err_from_is_err_and c.from_residual-in_err-next.result c.from_residual-in_err-next.ensures.1 in
+    let now = c.loop-count in
+    rw (refused.1, refused.2)
+    (reading_cause (task_of c.args.config.now c.args.words.now c.args.max_events)
+    (outside_of g.S.ScriptSource g.C.ByteSink c.args.source.now c.args.capture.now) (outside_of g.S.ScriptSource g.C.ByteSink now.source now.capture)
+    (outside_of g.S.ScriptSource g.C.ByteSink c.next.new.source now.capture) now.reader now.host now.report c.in_err-next.field-0.0
+    now.invariant.progress (record { script = c.in_err-next.ensures.script; limit = λ is. c.in_err-next.ensures.limit (ap (λ e. Err e) is) })
+    (record {
+      quiet = now.invariant.quiet;
+      capture = refl;
+      source = λ other. c.in_err-next.ensures.quiet (λ is. other (cc));
+      risen = λ is. c.in_err-next.ensures.read (ap (λ e. Err e) is);
+    }))
+
+pub returns-in_err-next-clause-complete : goal.returns-in_err-next-clause-complete
+returns-in_err-next-clause-complete g c =
+    completes (task_of c.args.config.now c.args.words.now c.args.max_events)
+    (outside_of g.S.ScriptSource g.C.ByteSink c.args.source.now c.args.capture.now)
+    (outside_of g.S.ScriptSource g.C.ByteSink c.next.new.source c.loop-count.capture) c.from_residual-in_err-next.result
+    (returns-in_err-next-clause-cause g c)
+
+pub returns-in_default-words_at-clause-leaves : goal.returns-in_default-words_at-clause-leaves
+returns-in_default-words_at-clause-leaves g c =
+    let now = c.loop-count in
+    ran_out (task_of c.args.config.now c.args.words.now c.args.max_events)
+    (outside_of g.S.ScriptSource g.C.ByteSink c.args.source.now c.args.capture.now) (outside_of g.S.ScriptSource g.C.ByteSink now.source now.capture)
+    (outside_of g.S.ScriptSource g.C.ByteSink c.next.new.source now.capture) now.reader c.next.new.self now.host now.report
+    c.in-Some.next.0 c.in-Some.next.1 now.invariant.progress (rw c.in-Some.is at c.in_ok-next.ensures.found) refl
+    (rw now.invariant.counted c.in_default-words_at.ensures.refuses)
+
+pub returns-in_default-words_at-clause-cause : goal.returns-in_default-words_at-clause-cause
+returns-in_default-words_at-clause-cause g c =
+    let now = c.loop-count in (
+      few_words (task_of c.args.config.now c.args.words.now c.args.max_events)
+          (outside_of g.S.ScriptSource g.C.ByteSink c.args.source.now c.args.capture.now)
+          (outside_of g.S.ScriptSource g.C.ByteSink c.next.new.source now.capture) now.report (returns-in_default-words_at-clause-leaves g c),
+      record { source = c.in_ok-next.ensures.quiet (λ is. cc) ∙ now.invariant.quiet.source; capture = now.invariant.quiet.capture },
+    )
+
+pub returns-in_default-words_at-clause-complete : goal.returns-in_default-words_at-clause-complete
+returns-in_default-words_at-clause-complete g c =
+    completes (task_of c.args.config.now c.args.words.now c.args.max_events)
+    (outside_of g.S.ScriptSource g.C.ByteSink c.args.source.now c.args.capture.now)
+    (outside_of g.S.ScriptSource g.C.ByteSink c.next.new.source c.loop-count.capture) (Err Words) (returns-in_default-words_at-clause-cause g c)
+
+pub returns-in_err-take_event-clause-leaves : goal.returns-in_err-take_event-clause-leaves
+returns-in_err-take_event-clause-leaves g c =
+    let refused = err_from_is_err_and c.from_residual-in_err-take_event.result c.from_residual-in_err-take_event.ensures.1 in
+    let now = c.loop-count in
+    let error = c.in_err-take_event.field-0.0 in
+    let task = task_of c.args.config.now c.args.words.now c.args.max_events in
+    let before = outside_of g.S.ScriptSource g.C.ByteSink c.args.source.now c.args.capture.now in
+    let here = outside_of g.S.ScriptSource g.C.ByteSink now.source now.capture in
+    let after = outside_of g.S.ScriptSource g.C.ByteSink c.next.new.source c.take_event.new.capture in
+    let gives = rw c.in-Some.is at c.in_ok-next.ensures.found in
+    let word = c.in-Some-words_at.ensures.found.0 ∙ ap (words_at task.words) (sym now.invariant.counted) in
+    let P : RunError → Type 0 = Leaves task before after c.take_event.new.report in
+    rw (refused.1, refused.2)
+    (⊎_elim
+    (λ (is_sink : error ≡ Sink). subst P (sym is_sink)
+    (row_leaves task before here after now.reader c.next.new.self now.host c.take_event.new.host now.report c.take_event.new.report
+    c.in-Some.next.0 c.in-Some.next.1 c.in-Some-words_at.drawn now.invariant.progress c.new-host.ensures.runs word gives
+    (c.in_err-take_event.ensures.sink (ap (λ e. Err e) is_sink))))
+    (λ (is_memory : error ≡ NoMemory). subst P (sym is_memory)
+    (event_leaves task before here after now.reader c.next.new.self now.host c.take_event.new.host now.report c.take_event.new.report
+    c.in-Some.next.0 c.in-Some.next.1 c.in-Some-words_at.drawn now.invariant.progress c.new-host.ensures.runs word gives
+    (c.in_err-take_event.ensures.memory (ap (λ e. Err e) is_memory))))
+    c.in_err-take_event.ensures.cause)
+
+pub loop-count-preserved : goal.loop-count-preserved
+loop-count-preserved g c =
+    let now = c.loop-count in
+    let task = task_of c.args.config.now c.args.words.now c.args.max_events in
+    let before = outside_of g.S.ScriptSource g.C.ByteSink c.args.source.now c.args.capture.now in
+    let here = outside_of g.S.ScriptSource g.C.ByteSink now.source now.capture in
+    let after = outside_of g.S.ScriptSource g.C.ByteSink c.next.new.source c.take_event.new.capture in
+    let gives = rw c.in-Some.is at c.in_ok-next.ensures.found in
+    let found = c.in-Some-words_at.ensures.found in
+    let word = found.0 ∙ ap (words_at task.words) (sym now.invariant.counted) in
+    let more = ap (λ (s : ReaderState). s.events) gives.moved in
+    record {
+      progress = goes_on task before here after now.reader c.next.new.self now.host c.take_event.new.host now.report c.take_event.new.report
+          c.in-Some.next.0 c.in-Some.next.1 c.in-Some-words_at.drawn now.invariant.progress c.new-host.ensures.runs word
+          (omega (arith, found.1, now.invariant.counted)) gives c.in_ok-take_event.ensures.ok;
+      quiet = record {
+        source = c.in_ok-next.ensures.quiet (λ is. cc) ∙ now.invariant.quiet.source;
+        capture = c.in_ok-take_event.ensures.quiet (λ is. cc) ∙ now.invariant.quiet.capture;
+      };
+      counted = omega (arith, more, now.invariant.counted);
+      within = omega (arith, gives.within, now.invariant.counted);
+      goes_on = ap (λ (s : ReaderState). s.is_through) gives.moved;
+      limit = rw gives.moved refl;
+      ready = c.take_event.ensures.ready;
+    }

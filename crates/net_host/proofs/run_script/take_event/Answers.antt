@@ -2,25 +2,34 @@
 use Rattle.std.proofs.Common.{inr, ap, sym, subst, ◌∙◌, List, ℕ}
 use Rattle.std.specs.Io.KnownBytes.{Appends}
 use Rattle.wire_base.specs.Causes.{AppendsFront}
-use Rattle.std.proofs.lemmas.Result.{err_from_is_err_and}
 use Rattle.phy_layers.specs.PcapBytes.{epoch_micros}
 use Rattle.net_host.specs.Captured.{sent_records}
 use Rattle.net_host.proofs.PlacingLemmas.{place_row, records_of_tick}
 use Rattle.net_host.proofs.run_script.take_event.Goals as goal
 
-pub returns-in_err-captured-clause-err : goal.returns-in_err-captured-clause-err
-returns-in_err-captured-clause-err g c =
-    let refused = err_from_is_err_and c.from_residual-in_err-captured.result c.from_residual-in_err-captured.ensures.1 in
-    let places = place_row c.args.at c.args.event c.args.word c.args.host.now c.handle.new.self c.args.report.now c.begin.new.self c.fill_last.new.self
-    c.kind_of.result c.in_ok-sent.sent c.in_ok-begin.ensures.ok c.fill_last.ensures c.kind_of.ensures c.in_ok-sent.ensures.value in
+pub returns-in_err-captured-clause-sink : goal.returns-in_err-captured-clause-sink
+returns-in_err-captured-clause-sink g c = λ is.
+    let places = place_row c.args.at c.args.event c.args.words c.args.host.now c.handle.new.self (g.C.ByteSink.bytes c.args.capture.now)
+    (g.C.ByteSink.bytes c.capture_sent-captured.new.capture) c.args.report.now c.begin.new.self c.fill_last.new.self
+    c.kind_of.result c.args.host.now.lease c.in_ok-handled.handled c.in_ok-begin.ensures.ok c.fill_last.ensures (c.kind_of.ensures c.args.at) c.in_ok-handled.ensures.value in
     let records = ap (sent_records (epoch_micros c.args.at)) c.as_slice.ensures ∙ sym (records_of_tick c.args.at c.args.event places.row) in
     let P : List ℕ → Type 0 = λ l. AppendsFront (g.C.ByteSink.bytes c.args.capture.now) (g.C.ByteSink.bytes c.capture_sent-captured.new.capture) l in
-    rw refused.1 (inr (inr (record { places = places; captured = subst P records c.capture_sent-captured.ensures.front })))
+    inr (record { places = places; captured = subst P records c.capture_sent-captured.ensures.front })
+
+pub returns-in_err-captured-clause-memory : goal.returns-in_err-captured-clause-memory
+returns-in_err-captured-clause-memory g c = λ is.
+    let places = place_row c.args.at c.args.event c.args.words c.args.host.now c.handle.new.self (g.C.ByteSink.bytes c.args.capture.now)
+    (g.C.ByteSink.bytes c.capture_sent-captured.new.capture) c.args.report.now c.begin.new.self c.fill_last.new.self
+    c.kind_of.result c.args.host.now.lease c.in_ok-handled.handled c.in_ok-begin.ensures.ok c.fill_last.ensures (c.kind_of.ensures c.args.at) c.in_ok-handled.ensures.value in
+    let records = ap (sent_records (epoch_micros c.args.at)) c.as_slice.ensures ∙ sym (records_of_tick c.args.at c.args.event places.row) in
+    let P : List ℕ → Type 0 = λ l. AppendsFront (g.C.ByteSink.bytes c.args.capture.now) (g.C.ByteSink.bytes c.capture_sent-captured.new.capture) l in
+    inr (inr (record { places = places; captured = subst P records c.capture_sent-captured.ensures.front }))
 
 pub returns-clause-ok : goal.returns-clause-ok
 returns-clause-ok g c =
-    let places = place_row c.args.at c.args.event c.args.word c.args.host.now c.handle.new.self c.args.report.now c.begin.new.self c.fill_last.new.self
-    c.kind_of.result c.in_ok-sent.sent c.in_ok-begin.ensures.ok c.fill_last.ensures c.kind_of.ensures c.in_ok-sent.ensures.value in
+    let places = place_row c.args.at c.args.event c.args.words c.args.host.now c.handle.new.self (g.C.ByteSink.bytes c.args.capture.now)
+    (g.C.ByteSink.bytes c.capture_sent-captured.new.capture) c.args.report.now c.begin.new.self c.fill_last.new.self
+    c.kind_of.result c.args.host.now.lease c.in_ok-handled.handled c.in_ok-begin.ensures.ok c.fill_last.ensures (c.kind_of.ensures c.args.at) c.in_ok-handled.ensures.value in
     let records = ap (sent_records (epoch_micros c.args.at)) c.as_slice.ensures ∙ sym (records_of_tick c.args.at c.args.event places.row) in
     let P : List ℕ → Type 0 = λ l. Appends (g.C.ByteSink.bytes c.args.capture.now) (g.C.ByteSink.bytes c.capture_sent-captured.new.capture) l in
     let whole = rw c.in_ok-captured.was at c.capture_sent-captured.ensures.whole in

@@ -1,6 +1,6 @@
 use Rattle.std.proofs.Common.{◌++◌, ◌∷◌, [], length, false, arith}
 use Rattle.ether_ip.specs.ExtensionGrammar.{first_extension_kind}
-use Rattle.ether_ip.proofs.WalkLemmas.{extensions_begun, extensions_stopped, extensions_go_on, extensions_ended, place_here}
+use Rattle.ether_ip.proofs.WalkLemmas.{extensions_begun, extensions_stopped, extensions_go_on_by, extensions_ended, place_here}
 use Rattle.ether_ip.proofs.ip.chain.chain_end.Goals as goal
 
 pub loop-named-init : goal.loop-named-init
@@ -34,9 +34,9 @@ loop-named-preserved c =
     let here = rw c.in-Some.is at extensions in (
       c.loop-named.invariant.0 ++ place_here c.args.bytes.now (first_extension_kind c.args.start.0) c.args.start.0 false 0 (length c.args.bytes.now)
           c.loop-named.at c.loop-named.number.0 c.loop-named.fragmented c.in-Some.kind c.loop-named.invariant.0 here ∷ [],
-      rw (c.is_fragmented_behind-fragmented.ensures, c.extension_behind-named.ensures)
-          (extensions_go_on c.args.bytes.now (first_extension_kind c.args.start.0) c.args.start.0 false 0 (length c.args.bytes.now)
-          c.loop-named.at c.loop-named.number.0 c.loop-named.fragmented c.in-Some.kind c.loop-named.invariant.0 here c.in-Ok.len
+      rw (c.slice.ensures.value, c.next_header-number.ensures.value, c.is_fragmenting_behind-fragmented.ensures.value, c.extension_behind-named.ensures, c.next_header-number.ensures.value)
+          (extensions_go_on_by c.args.bytes.now (first_extension_kind c.args.start.0) c.args.start.0 false 0 (length c.args.bytes.now)
+          c.loop-named.at c.loop-named.number.0 c.loop-named.fragmented c.in-Some.kind c.loop-named.invariant.0 here c.in-Ok.header
           c.in-Ok.ensures.value.0 c.in-Ok.ensures.value.1),
     )
 

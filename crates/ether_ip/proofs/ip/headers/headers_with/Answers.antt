@@ -15,4 +15,4 @@ returns-in-Ok-from_slice c =
     let fits : length c.args.header.now ≤ 40 = omega arith in
     let whole : take 40 c.args.header.now ≡ c.args.header.now = take_all 40 c.args.header.now fits in
     let other : (ip_version c.args.header.now == 4) ≡ false = grind (arith, nat_tests) in
-    rw (c.to_header-in-Ok-from_slice.ensures.value, c.in-Ok-from_slice.ensures.1, whole, other) refl
+    rw (c.to_header-in-Ok-from_slice.ensures.value, c.to_header-in-Ok-from_slice-2.ensures.value, c.in-Ok-from_slice.ensures.1, whole, other) refl

@@ -1,14 +1,14 @@
 use Rattle.std.proofs.Common.{[], ◌∷◌, ◌++◌, sym}
 use Rattle.ether_link.specs.declared.layout.Place.{Place}
-use Rattle.ether_ip.proofs.HeldLemmas.{none_taken, one_more_free, held_ended, held_stopped, held_taken}
-use Rattle.ether_ip.proofs.WalkLemmas.{extensions_begun, extensions_go_on, place_here}
+use Rattle.ether_ip.proofs.HeldLemmas.{none_taken, one_more_held, held_ended, held_stopped, held_taken}
+use Rattle.ether_ip.proofs.WalkLemmas.{extensions_begun, extensions_go_on_by, place_here}
 use Rattle.ether_ip.proofs.ip.held.held_end.Goals as goal
 
 pub loop-named-init : goal.loop-named-init
 loop-named-init c = (
   [],
   extensions_begun c.args.packet.now c.args.first c.args.before.number.0 c.args.before.fragmented c.args.before.at c.args.end c.requires.order,
-  rw c.none_held-held.ensures (none_taken c.args.packet.now),
+  rw c.new-held.ensures.value (none_taken c.args.packet.now),
 )
 
 pub returns-then-is_taken : goal.returns-then-is_taken
@@ -18,7 +18,7 @@ returns-then-is_taken c =
     record {
       value = held_taken c.args.packet.now c.args.first c.args.before.number.0 c.args.before.fragmented c.args.before.at c.args.end
           c.loop-named.behind.at c.loop-named.behind.number.0 c.loop-named.behind.fragmented c.loop-named.held c.loop-named.invariant.0
-          c.loop-named.invariant.2 c.in-Some.kind here (sym c.if-is_taken.ensures);
+          c.loop-named.invariant.2 c.in-Some.kind here (sym c.if-is_taken.ensures.value);
     }
 
 pub returns-in-Err : goal.returns-in-Err
@@ -28,7 +28,7 @@ returns-in-Err c =
     record {
       value = held_stopped c.args.packet.now c.args.first c.args.before.number.0 c.args.before.fragmented c.args.before.at c.args.end
           c.loop-named.behind.at c.loop-named.behind.number.0 c.loop-named.behind.fragmented c.loop-named.held c.loop-named.invariant.0
-          c.loop-named.invariant.2 c.in-Some.kind here (sym c.if-is_taken.ensures) c.in-Err.refusal c.in-Err.ensures.value;
+          c.loop-named.invariant.2 c.in-Some.kind here (sym c.if-is_taken.ensures.value) c.in-Err.refusal c.in-Err.ensures.value;
     }
 
 pub loop-named-preserved : goal.loop-named-preserved
@@ -38,12 +38,13 @@ loop-named-preserved c =
     let place : Place = place_here c.args.packet.now c.args.first c.args.before.number.0 c.args.before.fragmented c.args.before.at c.args.end
     c.loop-named.behind.at c.loop-named.behind.number.0 c.loop-named.behind.fragmented c.in-Some.kind c.loop-named.invariant.0 here in (
       c.loop-named.invariant.0 ++ place ∷ [],
-      rw (c.is_fragmented_behind.ensures, c.extension_behind-named.ensures)
-          (extensions_go_on c.args.packet.now c.args.first c.args.before.number.0 c.args.before.fragmented c.args.before.at c.args.end
-          c.loop-named.behind.at c.loop-named.behind.number.0 c.loop-named.behind.fragmented c.in-Some.kind c.loop-named.invariant.0 here c.in-Ok.len
+      rw (c.slice.ensures.value, c.next_header.ensures.value, c.is_fragmenting_behind.ensures.value, c.extension_behind-named.ensures, c.next_header.ensures.value)
+          (extensions_go_on_by c.args.packet.now c.args.first c.args.before.number.0 c.args.before.fragmented c.args.before.at c.args.end
+          c.loop-named.behind.at c.loop-named.behind.number.0 c.loop-named.behind.fragmented c.in-Some.kind c.loop-named.invariant.0 here c.in-Ok.header
           c.in-Ok.ensures.value.0 c.in-Ok.ensures.value.1),
-      rw (c.put.ensures, c.in-Ok.ensures.value.1)
-          (one_more_free c.args.packet.now c.loop-named.held c.loop-named.invariant.0 place c.loop-named.invariant.2 (sym c.if-is_taken.ensures)),
+      rw c.put.ensures.value
+          (one_more_held c.args.packet.now c.loop-named.held c.loop-named.invariant.0 c.in-Some.kind c.loop-named.behind.at c.args.end c.in-Ok.header
+          c.in-Ok.ensures.value.0 c.in-Ok.ensures.value.1 c.loop-named.invariant.2 (sym c.if-is_taken.ensures.value)),
     )
 
 pub returns : goal.returns

@@ -1,0 +1,5 @@
+pub mod FoundLemmas
+pub mod MapLemmas
+pub mod ReadLemmas
+pub mod StepLemmas
+pub mod WalkLemmas

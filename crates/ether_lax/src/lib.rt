@@ -1,0 +1,29 @@
+//! Dissection of packets that may be cut or damaged: every header that is there, and what stopped the
+//! dissection.
+#![tactic(auto)]
+
+pub mod ether_payload;
+mod found;
+pub mod ip;
+pub mod ipv4;
+pub mod ipv6;
+pub mod link_ext;
+pub mod macsec;
+pub mod net;
+mod nets;
+mod read_part;
+mod sliced;
+pub mod sliced_packet;
+pub mod step;
+mod stops;
+mod walk;
+
+pub use ether_payload::LaxEtherPayloadSlice;
+pub use ip::LaxIpSlice;
+pub use ipv4::LaxIpv4Slice;
+pub use ipv6::LaxIpv6Slice;
+pub use link_ext::LaxLinkExtSlice;
+pub use macsec::{LaxMacsecPayloadSlice, LaxMacsecSlice};
+pub use net::LaxNetSlice;
+pub use sliced_packet::LaxSlicedPacket;
+pub use step::{NextLayer, Part, next_layer};

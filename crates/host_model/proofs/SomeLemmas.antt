@@ -1,0 +1,163 @@
+-- Bytes are in one of the classes: events are read off as long as there are some.
+use Rattle.std.proofs.Common.{◌≡◌, ℕ, zero, suc, ◌^◌, ◌<◌, ◌≤◌, ◌⊎◌, inl, inr, ⊎_elim, Bool, true, false, nat_eq, List, [], ◌∷◌, ◌++◌, length, take, drop, ap, sym, subst, ◌∙◌, refl, arith, append_assoc, take-append-drop, append-nil, leb}
+use Rattle.std.specs.Int.{from_be_bytes, w64}
+use Rattle.std.specs.Cmp.Lexicographic.{pointwise}
+use Rattle.std.proofs.lemmas.Slice.Eq.{slice_eq-Decides}
+use Rattle.std.proofs.lemmas.Bool.Decides.{Decides-eqb, leb_tells, not_from_Decides}
+use Rattle.std.proofs.lemmas.Nat.{from_be_bytes-to_be_bytes_8}
+use Rattle.host_model.specs.Script.{Arrival, Tick, Event, head_bytes, Spells, SpellsAll, IsNext, AreInOrder, last_time, time_limit, BeginsNoEvent}
+use Rattle.host_model.specs.Classes.{IsValidScript, BeginsWith, IsOverLimit, IsBrokenAt}
+use Rattle.host_model.proofs.PartLemmas.{head_of}
+
+-- the next event of bytes, and what follows
+pub record Found (last : ℕ) (bytes : List ℕ) : Type 0 where
+  pub event : Event
+  pub front : List ℕ
+  pub rest : List ℕ
+  pub next : IsNext last event
+  pub spelled : Spells event front
+  pub whole : bytes ≡ front ++ rest
+
+-- the number where a time stands
+abbrev time_of : List ℕ → ℕ
+time_of bytes = from_be_bytes w64 (take 8 (drop 1 bytes))
+
+-- the head of an event that begins bytes, by the time that stands there
+head_there : (arrival : Arrival) (at : ℕ) (more bytes : List ℕ) → at < 2 ^ 64 → bytes ≡ head_bytes arrival at ++ more
+    → (at ≡ time_of bytes) × (take 9 bytes ≡ head_bytes Tick (time_of bytes))
+head_there Tick at more bytes fits is =
+    let number : at ≡ time_of bytes = sym (ap time_of is ∙ from_be_bytes-to_be_bytes_8 at fits) in
+    (number, ap (take 9) is ∙ ap (head_bytes Tick) number)
+
+abbrev tick_at : ℕ → Event
+tick_at at = record { at = at; arrival = Tick }
+
+by_test : {P : Type 0} (b : Bool) → (b ≡ true → P) → (b ≡ false → P) → P
+by_test true so not_so = so refl
+by_test false so not_so = not_so refl
+
+-- a time may follow another one, or not
+in_order_or_not : (last at : ℕ) → ((last ≤ at) × (at < time_limit)) ⊎ ((at < last) ⊎ (time_limit ≤ at))
+in_order_or_not last at =
+    ⊎_elim
+    (λ (after : (leb last at ≡ true) × (last ≤ at)).
+    ⊎_elim
+    (λ (late : (leb time_limit at ≡ true) × (time_limit ≤ at)). inr (inr late.1))
+    (λ (within : (leb time_limit at ≡ false) × (at < time_limit)). inl (after.1, within.1))
+    (leb_tells time_limit at))
+    (λ (early : (leb last at ≡ false) × (at < last)). inr (inl early.1))
+    (leb_tells last at)
+
+-- a tick whose time is in order
+found_tick : (last : ℕ) (bytes : List ℕ) → take 9 bytes ≡ head_bytes Tick (time_of bytes) → last ≤ time_of bytes → time_of bytes < time_limit
+    → Found last bytes
+found_tick last bytes is not_before in_range = record {
+  event = tick_at (time_of bytes);
+  front = take 9 bytes;
+  rest = drop 9 bytes;
+  next = record { not_before = not_before; in_range = in_range; arrival = tt };
+  spelled = record { rest = []; brings = refl; whole = is ∙ sym (append-nil (head_bytes Tick (time_of bytes))) };
+  whole = sym (take-append-drop 9 bytes);
+}
+
+-- and where no tick stands, or out of order, no event does
+out_of_order : (last : ℕ) (bytes : List ℕ) → (time_of bytes < last) ⊎ (time_limit ≤ time_of bytes) → BeginsNoEvent last bytes
+out_of_order last bytes wrong = λ event front rest next spelled whole.
+    let there = head_there event.arrival event.at (spelled.rest ++ rest) bytes (omega (arith, next.in_range)) (head_of event front rest bytes spelled whole) in
+    ⊎_elim (λ (early : time_of bytes < last). omega (arith, early, there.0, next.not_before))
+    (λ (late : time_limit ≤ time_of bytes). omega (arith, late, there.0, next.in_range)) wrong
+
+no_head : (last : ℕ) (bytes : List ℕ) → (take 9 bytes ≡ head_bytes Tick (time_of bytes) → ⊥) → BeginsNoEvent last bytes
+no_head last bytes differs = λ event front rest next spelled whole.
+    differs (head_there event.arrival event.at (spelled.rest ++ rest) bytes (omega (arith, next.in_range)) (head_of event front rest bytes spelled whole)).1
+
+pub found_or_not : (last : ℕ) (bytes : List ℕ) → Found last bytes ⊎ BeginsNoEvent last bytes
+found_or_not last bytes =
+    let test = pointwise nat_eq (take 9 bytes) (head_bytes Tick (time_of bytes)) in
+    let decides = slice_eq-Decides Decides-eqb (take 9 bytes) (head_bytes Tick (time_of bytes)) test refl in
+    let P : Type 0 = Found last bytes ⊎ BeginsNoEvent last bytes in
+    by_test {P = P} test
+    (λ same.
+    ⊎_elim
+    (λ (ordered : (last ≤ time_of bytes) × (time_of bytes < time_limit)). inl (found_tick last bytes (decides.0 same) ordered.0 ordered.1))
+    (λ (wrong : (time_of bytes < last) ⊎ (time_limit ≤ time_of bytes)). inr (out_of_order last bytes wrong))
+    (in_order_or_not last (time_of bytes)))
+    (λ differs. inr (no_head last bytes (not_from_Decides test decides differs)))
+
+-- how many events bytes begin with, at most `max` of them, and why they are no more
+abbrev pub Ends : ℕ → ℕ → List Event → List ℕ → Type 0
+Ends last max events more =
+    ((more ≡ []) × (length events ≤ max))
+    ⊎ (((0 < length more) × (length events ≡ max)) ⊎ ((0 < length more) × (length events < max) × BeginsNoEvent (last_time last events) more))
+
+pub record Split (last max : ℕ) (bytes : List ℕ) : Type 0 where
+  pub events : List Event
+  pub front : List ℕ
+  pub more : List ℕ
+  pub in_order : AreInOrder last events
+  pub spelled : SpellsAll events front
+  pub whole : bytes ≡ front ++ more
+  pub ends : Ends last max events more
+
+none_of : (last max : ℕ) (bytes : List ℕ) → Ends last max [] bytes → Split last max bytes
+none_of last max bytes ends = record { events = []; front = []; more = bytes; in_order = tt; spelled = refl; whole = refl; ends = ends }
+
+one_more : (last max : ℕ) (bytes : List ℕ) (found : Found last bytes) → Split found.event.at max found.rest → Split last (suc max) bytes
+one_more last max bytes found later = record {
+  events = found.event ∷ later.events;
+  front = found.front ++ later.front;
+  more = later.more;
+  in_order = (found.next, later.in_order);
+  spelled = (found.front, later.front, refl, found.spelled, later.spelled);
+  whole = found.whole ∙ ap (λ l. found.front ++ l) later.whole ∙ sym (append_assoc found.front later.front later.more);
+  ends = ⊎_elim
+      (λ (none : (later.more ≡ []) × (length later.events ≤ max)). inl (none.0, omega (arith, none.1)))
+      (⊎_elim
+      (λ (full : (0 < length later.more) × (length later.events ≡ max)). inr (inl (full.0, omega (arith, full.1))))
+      (λ (broken : (0 < length later.more) × (length later.events < max) × BeginsNoEvent (last_time found.event.at later.events) later.more).
+      inr (inr (broken.0, omega (arith, broken.1), broken.2))))
+      later.ends;
+}
+
+split : (max last : ℕ) (bytes : List ℕ) → Split last max bytes
+split max last [] = none_of last max [] (inl (refl, omega arith))
+split zero last (byte ∷ bytes) = none_of last zero (byte ∷ bytes) (inr (inl (omega arith, refl)))
+split (suc max) last (byte ∷ bytes) =
+    ⊎_elim
+    (λ (found : Found last (byte ∷ bytes)). one_more last max (byte ∷ bytes) found (split max found.event.at found.rest))
+    (λ (none : BeginsNoEvent last (byte ∷ bytes)). none_of last (suc max) (byte ∷ bytes) (inr (inr (omega arith, omega arith, none))))
+    (found_or_not last (byte ∷ bytes))
+
+pub some : (max : ℕ) (bytes : List ℕ) → IsValidScript max bytes ⊎ (IsOverLimit max bytes ⊎ ((offset : ℕ) × IsBrokenAt max bytes offset))
+some max bytes =
+    let is = split max 0 bytes in
+    let begins : BeginsWith is.events is.front is.more bytes = record { in_order = is.in_order; spelled = is.spelled; whole = is.whole } in
+    ⊎_elim
+    (λ (none : (is.more ≡ []) × (length is.events ≤ max)).
+    let P : List ℕ → Type 0 = λ l. SpellsAll is.events l in
+    inl (
+      is.events,
+      record {
+        in_order = is.in_order;
+        few = none.1;
+        whole = subst P (sym (is.whole ∙ ap (λ l. is.front ++ l) none.0 ∙ append-nil is.front)) is.spelled;
+      },
+    ))
+    (⊎_elim
+    (λ (full : (0 < length is.more) × (length is.events ≡ max)).
+    inr (inl (record { events = is.events; front = is.front; more = is.more; begins = begins; full = full.1; goes_on = full.0 })))
+    (λ (broken : (0 < length is.more) × (length is.events < max) × BeginsNoEvent (last_time 0 is.events) is.more).
+    inr (inr (
+      length is.front,
+      record {
+        events = is.events;
+        front = is.front;
+        more = is.more;
+        begins = begins;
+        few = broken.1;
+        place = refl;
+        goes_on = broken.0;
+        no_event = broken.2;
+      },
+    ))))
+    is.ends

@@ -1,0 +1,3 @@
+pub mod AhLemmas
+pub mod ByteLemmas
+pub mod EspLemmas

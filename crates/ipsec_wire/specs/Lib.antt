@@ -1,0 +1,4 @@
+pub mod Ah
+pub mod AhRepr
+pub mod Esp
+pub mod EspRepr

@@ -1,0 +1,136 @@
+-- Polling answers an event, whatever is planned.
+use Rattle.std.proofs.Common.{◌≡◌, ◌<◌, ◌⊎◌, inl, inr, ⊎_elim, List, ◌∷◌, length, Bool, true, false, cond, Err, pos, ap, sym, subst, ◌∙◌, refl, arith}
+use Rattle.net_wire.specs.declared.error.Context.{Context}
+use Rattle.net_wire.specs.declared.error.EmitError.TheVariants.{Unresolved}
+use Rattle.dhcp_client.specs.Client.{Client, poll_at_of, after_reset}
+use Rattle.dhcp_client.specs.Plan.{Plan, Restart, plan_for, Dispatched}
+use Rattle.dhcp_client.proofs.PlanLemmas.{waits_in}
+use Rattle.host_model.specs.declared.words.EventWords.{EventWords}
+use Rattle.host_model.specs.Script.{Event, time_limit}
+use Rattle.host_model.specs.Settings.{Settings}
+use Rattle.host_model.specs.History.{Entry, times_since}
+use Rattle.host_model.specs.Anchor.{Anchor, Loss, anchor_after_time, due_under, is_over, place_of}
+use Rattle.host_model.specs.Named.{message_under}
+use Rattle.host_model.proofs.SinceLemmas.{none_since}
+use Rattle.net_host.specs.declared.emitter.Emitter.{Emitter}
+use Rattle.net_host.specs.Agreement.{AgreesUnder, state_with}
+use Rattle.net_host.specs.Emitter.{TakesMessage, RefusesMessage}
+use Rattle.net_host.specs.Polling.{Polled, IsQuiet, GoesOn, Waits}
+use Rattle.net_host.proofs.PlannedLemmas.{PlansRestart, PlansMessage, PlansNothing, IsContextOf, IsFair, outgoing_for, poll_at_is}
+use Rattle.net_host.proofs.PollingLemmas.{pos_le, pos_lt}
+use Rattle.net_host.proofs.DueLemmas.{plans, due_is, kept}
+use Rattle.net_host.proofs.PolledLemmas.{took, refused, began_anew, ended}
+use Rattle.net_host.proofs.HistoryLemmas.{Answered, KnowsHops, answered_early, answered_refused, answered_sent}
+
+-- polling under an anchor that is not over
+settled : (settings : Settings) (before : List Entry) (event : Event) (words : EventWords) (anchor : Anchor) (cx : Context) (client last : Client) (out later : Emitter)
+    → IsFair settings.client.retry → IsContextOf settings event.at cx → event.at < time_limit
+    → is_over settings.client.retry (times_since (place_of anchor) before) event.at anchor ≡ false
+    → KnowsHops settings before event out → AgreesUnder settings before anchor client
+    → Polled cx words.first client out last later → Answered settings before event words anchor last later
+settled settings before event words anchor cx client last out later fair is_cx in_range going knows agrees (IsQuiet _ _ _ _ early) =
+    let due = due_is settings before anchor client agrees in
+    answered_early settings before event words anchor client out
+    (pos_lt event.at (due_under settings.client.retry (times_since (place_of anchor) before) anchor) (rw (← due, ← is_cx.now) early)) knows agrees
+settled settings before event words anchor cx client last out later fair is_cx in_range going knows agrees (GoesOn _ _ _ next _ _ mid _ on_time done more) =
+    let sent = times_since (place_of anchor) before in
+    let due = due_is settings before anchor client agrees in
+    let plan = plan_for client cx words.first in
+    ⊎_elim
+    (λ (restart : PlansRestart settings sent event.at anchor plan). absurd (cc (restart.over, going)))
+    (⊎_elim
+    (λ (message : PlansMessage settings sent event.at words anchor plan).
+    let after = state_with settings.client.retry (event.at ∷ sent) anchor in
+    let outgoing = outgoing_for settings (message_under settings words anchor) in
+    let taken = took plan outgoing message.middle after client next out mid message.plan_is done in
+    let next_due : poll_at_of next.state ≡ pos (due_under settings.client.retry (event.at ∷ sent) anchor) =
+    ap (λ (c : Client). poll_at_of c.state) taken.1 ∙ poll_at_is settings.client.retry (event.at ∷ sent) anchor in
+    let end = ended cx words.first event.at (due_under settings.client.retry (event.at ∷ sent) anchor) next last mid later is_cx.now next_due message.moves more in
+    let P : Client → Type 0 = λ c. Answered settings before event words anchor c later in
+    let Q : Emitter → Type 0 = λ e. TakesMessage out e outgoing in
+    subst P (sym (end.0 ∙ taken.1))
+    (answered_sent settings before event words anchor client out later message.due knows (subst Q (sym end.1) taken.0) agrees))
+    (λ (nothing : PlansNothing settings sent event.at anchor plan).
+    absurd (omega (arith, nothing.early, pos_le (due_under settings.client.retry sent anchor) event.at (rw (← due, ← is_cx.now) on_time)))))
+    (plans settings before event.at words anchor client cx fair is_cx in_range agrees)
+settled settings before event words anchor cx client last out later fair is_cx in_range going knows agrees (Waits _ _ _ _ _ _ on_time done) =
+    let sent = times_since (place_of anchor) before in
+    let due = due_is settings before anchor client agrees in
+    let plan = plan_for client cx words.first in
+    ⊎_elim
+    (λ (restart : PlansRestart settings sent event.at anchor plan). absurd (cc (restart.over, going)))
+    (⊎_elim
+    (λ (message : PlansMessage settings sent event.at words anchor plan).
+    let after = state_with settings.client.retry (event.at ∷ sent) anchor in
+    let outgoing = outgoing_for settings (message_under settings words anchor) in
+    let stays = refused plan outgoing message.middle after client last out later message.plan_is done in
+    let same = kept settings before event.at words anchor plan client out message stays.0.unknown in
+    let P : Client → Type 0 = λ c. Answered settings before event words anchor c later in
+    let Q : Emitter → Type 0 = λ e. Answered settings before event words anchor (record client { state = message.middle }) e in
+    let agrees_still : AgreesUnder settings before anchor (record client { state = message.middle }) = record {
+      id = agrees.id;
+      state = same;
+      told = agrees.told;
+      placed = agrees.placed;
+    } in
+    subst P (sym stays.1) (subst Q (sym stays.0.stays)
+    (answered_refused settings before event words anchor (record client { state = message.middle }) out message.due knows stays.0.unknown agrees_still)))
+    (λ (nothing : PlansNothing settings sent event.at anchor plan).
+    absurd (omega (arith, nothing.early, pos_le (due_under settings.client.retry sent anchor) event.at (rw (← due, ← is_cx.now) on_time)))))
+    (plans settings before event.at words anchor client cx fair is_cx in_range agrees)
+
+-- a client that began anew goes by a loss here
+anew : (settings : Settings) (before : List Entry) (anchor : Anchor) (client : Client) → AgreesUnder settings before anchor client
+    → AgreesUnder settings before (Loss (length before)) (after_reset client)
+anew settings before anchor client agrees = record {
+  id = agrees.id;
+  state = sym (ap (λ times. state_with settings.client.retry times (Loss (length before))) (none_since before));
+  told = agrees.told;
+  placed = omega arith;
+}
+
+-- polling under an anchor that is over: it begins anew, and then goes on
+restarted : (settings : Settings) (before : List Entry) (event : Event) (words : EventWords) (anchor : Anchor) (cx : Context) (client last : Client) (out later : Emitter)
+    → IsFair settings.client.retry → IsContextOf settings event.at cx → event.at < time_limit
+    → plan_for client cx words.first ≡ Restart
+    → KnowsHops settings before event out → AgreesUnder settings before anchor client
+    → Polled cx words.first client out last later → Answered settings before event words (Loss (length before)) last later
+restarted settings before event words anchor cx client last out later fair is_cx in_range restart knows agrees (IsQuiet _ _ _ _ early) =
+    let waits = waits_in client.state client.settings cx words.first early in absurd (cc (waits, restart))
+restarted settings before event words anchor cx client last out later fair is_cx in_range restart knows agrees (GoesOn _ _ _ next _ _ mid _ on_time done more) =
+    let begun = began_anew (plan_for client cx words.first) client next out mid restart done in
+    let P : Client → Type 0 = λ c. AgreesUnder settings before (Loss (length before)) c in
+    let Q : Emitter → Type 0 = λ e. KnowsHops settings before event e in
+    settled settings before event words (Loss (length before)) cx next last mid later fair is_cx in_range refl
+    (subst Q (sym begun.1) knows) (subst P (sym begun.0) (anew settings before anchor client agrees)) more
+restarted settings before event words anchor cx client last out later fair is_cx in_range restart knows agrees (Waits _ _ _ _ _ _ on_time done) =
+    let P : Plan → Type 0 = λ p. Dispatched TakesMessage RefusesMessage p (Err Unresolved) client last out later in
+    let unlike = subst P restart done in absurd (cc unlike.0)
+
+is_or_not : (b : Bool) → (b ≡ true) ⊎ (b ≡ false)
+is_or_not true = inl refl
+is_or_not false = inr refl
+
+-- polling answers an event under the anchor that its time leaves
+pub answered : (settings : Settings) (before : List Entry) (event : Event) (words : EventWords) (anchor : Anchor) (cx : Context) (client last : Client) (out later : Emitter)
+    → IsFair settings.client.retry → IsContextOf settings event.at cx → event.at < time_limit
+    → KnowsHops settings before event out → AgreesUnder settings before anchor client
+    → Polled cx words.first client out last later
+    → Answered settings before event words (anchor_after_time settings before event.at anchor) last later
+answered settings before event words anchor cx client last out later fair is_cx in_range knows agrees polling =
+    let sent = times_since (place_of anchor) before in
+    let over = is_over settings.client.retry sent event.at anchor in
+    let plan = plan_for client cx words.first in
+    let P : Bool → Type 0 = λ b. Answered settings before event words (cond b (Loss (length before)) anchor) last later in
+    ⊎_elim
+    (λ (yes : over ≡ true). subst P (sym yes)
+    (⊎_elim
+    (λ (restart : PlansRestart settings sent event.at anchor plan).
+    restarted settings before event words anchor cx client last out later fair is_cx in_range restart.plan_is knows agrees polling)
+    (⊎_elim
+    (λ (message : PlansMessage settings sent event.at words anchor plan). absurd (cc (message.going, yes)))
+    (λ (nothing : PlansNothing settings sent event.at anchor plan). absurd (cc (nothing.going, yes))))
+    (plans settings before event.at words anchor client cx fair is_cx in_range agrees)))
+    (λ (going : over ≡ false). subst P (sym going)
+    (settled settings before event words anchor cx client last out later fair is_cx in_range going knows agrees polling))
+    (is_or_not over)

@@ -1,0 +1,21 @@
+-- The events so far were read and answered.
+use Rattle.std.proofs.Common.{◌≡◌, ◌≤◌, false, IfSome}
+use Rattle.net_host.specs.Outside.{outside_of, IsQuiet}
+use Rattle.net_host.specs.Polling.{IsReady}
+use Rattle.net_host.specs.Run.{task_of}
+use Rattle.net_host.proofs.ProgressLemmas.{Progress}
+use Rattle.net_host.proofs.run_script.run.Given as goal
+
+abbrev pub invariant-loop-count : goal.invariant-loop-count
+invariant-loop-count g l =
+    let before = outside_of g.S.ScriptSource g.C.ByteSink l.fn.source l.fn.capture in
+    let now = outside_of g.S.ScriptSource g.C.ByteSink l.source l.capture in
+    record {
+      progress : Progress (task_of l.config l.words l.max_events) before now l.reader l.host l.report;
+      quiet : IsQuiet before now;
+      counted : l.reader.events ≡ l.count;
+      within : l.count ≤ l.max_events;
+      goes_on : l.reader.is_through ≡ false;
+      limit : IfSome l.reader.max_events (λ max. max ≡ l.max_events);
+      ready : IsReady l.host.dhcp l.host.ip_mtu;
+    }

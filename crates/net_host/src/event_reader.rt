@@ -1,0 +1,111 @@
+//! The events of a script, read one behind the other.
+ghost use Rattle.std.specs.Prelude.{◌≡◌, ℕ, ◌<◌, ◌≤◌, true, false, length, IfOk, IfErr, IfSome, IfNone};
+ghost use Rattle.std.specs.Result.{IsErrOf};
+ghost use Rattle.wire_base.specs.Causes.{IsRisen};
+ghost use Rattle.host_model.specs.Script.{BeginsNoEvent};
+ghost use Rattle.net_host.specs.Head.{event_of};
+ghost use Rattle.net_host.specs.ReaderState.{at_start};
+ghost use Rattle.net_host.specs.Reading.{GivesEvent, IsThrough, RefusesEvent};
+ghost use Rattle.net_host.specs.declared.script.ReadEventError.TheVariants.{Script, Limit, Read};
+
+use crate::script::{EventKind, HEAD_LEN, read_head};
+use crate::{ReadEventError, ScriptEvent, ScriptSource};
+use net_wire::{Instant, NoMemory};
+use std::alloc::Global;
+use std::marker::Model;
+
+/// The most bytes behind the head of an event: a tick has none.
+const REST_LEN: usize = 0;
+
+/// Reads the events of one script, and knows where it is on it.
+#[derive(Debug, Drop)]
+pub struct EventReader {
+    /// Takes the bytes behind the head of an event.
+    rest: Vec<u8>,
+    offset: u64,
+    events: u32,
+    last_micros: u64,
+    max_events: Option<u32>,
+    is_through: bool,
+}
+
+impl Model for EventReader {
+    ghost use Rattle.net_host.specs.ReaderState.{ReaderState};
+
+    ghost Value = { ReaderState };
+
+    ghost use Rattle.net_host.specs.EventReader.{state_inside, IsPlacedInside};
+
+    ghost view = { state_inside };
+
+    ghost invariant = { IsPlacedInside };
+}
+
+impl EventReader {
+    /// A reader that has read nothing. It takes all the memory that it needs.
+    pub fn new(alloc: Global) -> Result<EventReader, NoMemory>
+        ensures value { IfOk result (λ reader. reader ≡ at_start) }
+    {
+        let Ok(rest) = vec![in alloc; 0; REST_LEN] else {
+            return Err(NoMemory);
+        };
+        Ok(EventReader {
+            rest,
+            offset: 0,
+            events: 0,
+            last_micros: 0,
+            max_events: None,
+            is_through: false,
+        })
+    }
+
+    /// Reads the next event of a script that has at most `max_events`, with its time; at the end of input there is none. All
+    /// calls are told the same number and the same source, from which nothing else reads in between.
+    pub fn next<S: ScriptSource>(
+        &mut self,
+        source: &mut S,
+        max_events: u32,
+    ) -> Result<Option<(Instant, ScriptEvent)>, ReadEventError>
+        requires goes_on { self.old.is_through ≡ false }
+        requires limit { IfSome self.old.max_events (λ max. max ≡ max_events) }
+        ensures found { IfOk result (λ found. IfSome found (λ e.
+            GivesEvent max_events self.old self.new (S.left source.old) (S.left source.new) e.0 e.1)) }
+        ensures ended { IfOk result (λ found. IfNone found (
+            IsThrough max_events self.old self.new (S.left source.old) (S.left source.new))) }
+        ensures err { IfErr result (
+            RefusesEvent max_events self.old self.new (S.left source.old) (S.left source.new)) }
+        // Why no event comes.
+        ensures script { IfErr result (λ e. (o : ℕ) → e ≡ Script o
+            → (o ≡ self.old.offset) × (self.old.events < max_events)
+            × IfSome (S.left source.old) (λ bytes. (0 < length bytes) × BeginsNoEvent self.old.last bytes)) }
+        ensures limit { IsErrOf result Limit → (max_events ≤ self.old.events)
+            × IfSome (S.left source.old) (λ bytes. 0 < length bytes) }
+        ensures read { IsErrOf result Read → IsRisen (S.faults source.old) (S.faults source.new) }
+        ensures quiet { (IsErrOf result Read → ⊥) → S.faults source.new ≡ S.faults source.old }
+        ensures later { S.faults source.old ≤ S.faults source.new }
+    {
+        self.max_events = Some(max_events);
+        self.is_through = true;
+        let is_full = self.events >= max_events;
+        let Some(head) = read_head(source, self.last_micros, self.offset, is_full)? else {
+            return Ok(None);
+        };
+        self.is_through = false;
+        self.offset += HEAD_LEN;
+        self.events += 1;
+        self.last_micros = head.micros;
+        Ok(Some((
+            Instant::from_micros(head.micros as i64),
+            event_of(head.kind),
+        )))
+    }
+}
+
+/// The event of a kind that has no rest.
+fn event_of(kind: EventKind) -> ScriptEvent
+    ensures { result ≡ event_of kind }
+{
+    match kind {
+        EventKind::Tick => ScriptEvent::Tick,
+    }
+}

@@ -1,0 +1,8 @@
+//! Callers of the libraries as their users would write them, each proved from the clauses of the
+//! calls that it makes, with no proof file.
+#![tactic(auto)]
+
+pub mod headers;
+pub mod sums;
+#[cfg(test)]
+mod tests;
