@@ -3,6 +3,9 @@
 #![tactic(auto)]
 
 pub mod headers;
+pub mod ipsec;
+pub mod layers;
+pub mod printing;
 pub mod sums;
 #[cfg(test)]
 mod tests;
