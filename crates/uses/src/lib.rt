@@ -5,6 +5,8 @@
 pub mod headers;
 pub mod ipsec;
 pub mod layers;
+#[cfg(test)]
+mod packet_tests;
 pub mod printing;
 pub mod sums;
 #[cfg(test)]
