@@ -3,6 +3,11 @@
 #![tactic(auto)]
 
 pub mod headers;
+pub mod ipsec;
+pub mod layers;
+#[cfg(test)]
+mod packet_tests;
+pub mod printing;
 pub mod sums;
 #[cfg(test)]
 mod tests;
