@@ -2,6 +2,11 @@ pub mod Carried
 pub mod Client
 pub mod Config
 pub mod Emit
+pub mod Event
+pub mod Heard
+pub mod HeardValue
+pub mod Hearing
 pub mod Messages
 pub mod Plan
 pub mod Retry
+pub mod Times

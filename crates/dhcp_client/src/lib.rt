@@ -3,18 +3,23 @@
 
 pub mod config;
 pub mod emit;
+pub mod event;
+mod heard;
 pub mod laws;
 mod messages;
 mod plan;
+mod planning;
 pub mod retry;
 pub mod socket;
 pub mod state;
+mod times;
 
 pub use config::ClientConfig;
 pub use emit::DhcpEmit;
+pub use event::{Config, Event};
 pub use retry::RetryConfig;
 pub use socket::Socket;
-pub use state::ClientState;
+pub use state::{ClientState, Lease, ServerInfo};
 
 #[cfg(test)]
 mod tests;

@@ -1,17 +1,22 @@
 //! The client.
-use crate::messages::{broadcast, discover};
+use crate::heard::{Granted, Heard, copy_of, heard_from};
 use crate::plan::Plan;
-use crate::{ClientConfig, ClientState, DhcpEmit};
-use net_wire::{Context, EmitError, Instant};
+use crate::{ClientConfig, ClientState, Config, DhcpEmit, Event, RetryConfig, ServerInfo};
+use arrayvec::ArrayVec;
+use net_wire::{Context, DhcpOption, DhcpRepr, Duration, EmitError, Instant, Ipv4Address};
 use std::marker::Model;
 
 /// A DHCP client (RFC 2131, section 4.4).
 #[derive(Debug, Drop)]
 pub struct Socket<'a> {
-    state: ClientState,
+    pub(crate) state: ClientState,
+    /// Of the lease; none without a lease.
+    pub(crate) dns_servers: ArrayVec<Ipv4Address, 3>,
+    /// Whether the configuration changed since the last event.
+    pub(crate) config_changed: bool,
     /// Of the message sent last; 1 before any.
-    transaction_id: u32,
-    config: ClientConfig<'a>,
+    pub(crate) transaction_id: u32,
+    pub(crate) config: ClientConfig<'a>,
 }
 
 impl<'a> Model for Socket<'a> {
@@ -22,6 +27,8 @@ impl<'a> Model for Socket<'a> {
 
     ghost view = { λ s. record {
       state = s.state;
+      dns_servers = s.dns_servers.items;
+      changed = s.config_changed;
       transaction_id = s.transaction_id;
       settings = client_settings s.config;
     } };
@@ -30,10 +37,16 @@ impl<'a> Model for Socket<'a> {
 }
 
 impl<'a> Socket<'a> {
-    ghost use Rattle.std.specs.Prelude.{◌≡◌};
-    ghost use Rattle.dhcp_client.specs.Client.{new_client, poll_at_of};
+    ghost use Rattle.std.specs.Prelude.{◌≡◌, false, map};
+    ghost use Rattle.std.specs.Option.{option_map};
+    ghost use Rattle.net_wire.specs.DhcpMessage.{message_of, option_value};
+    ghost use Rattle.net_wire.specs.DhcpRead.{message_at};
+    ghost use Rattle.dhcp_client.specs.Client.{new_client, poll_at_of, after_reset};
     ghost use Rattle.dhcp_client.specs.Config.{AreSettingsWritable, IsRequestList, client_settings, default_settings};
-    ghost use Rattle.dhcp_client.specs.Carried.{plan_value, IsWritablePlan};
+    ghost use Rattle.dhcp_client.specs.Event.{event_of, told_by};
+    ghost use Rattle.dhcp_client.specs.Heard.{heard_in, is_for};
+    ghost use Rattle.dhcp_client.specs.HeardValue.{granted_value, heard_value};
+    ghost use Rattle.dhcp_client.specs.Hearing.{after_ack, after_heard, after_message, after_offer, after_refusal};
     ghost use Rattle.dhcp_client.specs.Plan.{Dispatched, plan_for};
 
     /// A client that was told nothing: it discovers at moment 0.
@@ -61,6 +74,8 @@ impl<'a> Socket<'a> {
             state: ClientState::Discovering {
                 retry_at: Instant::ZERO,
             },
+            dns_servers: ArrayVec::new(),
+            config_changed: true,
             transaction_id: 1,
             config: ClientConfig {
                 retry,
@@ -74,12 +89,201 @@ impl<'a> Socket<'a> {
         }
     }
 
+    pub fn set_retry_config(&mut self, config: RetryConfig)
+        ensures { self.new ≡ record self.old { settings = record self.old.settings { retry = config } } }
+    {
+        self.config.retry = config;
+    }
+
+    pub fn get_retry_config(&self) -> RetryConfig
+        ensures { result ≡ self.now.settings.retry }
+    {
+        self.config.retry
+    }
+
+    /// Options that each message carries behind the client's.
+    pub fn set_outgoing_options(&mut self, options: &'a [DhcpOption<'a>])
+        ensures { self.new ≡ record self.old { settings = record self.old.settings { options = map option_value options.entry.now } } }
+    {
+        self.config.options = options;
+    }
+
+    /// The options that servers are asked for (RFC 2132, section 9.8).
+    pub fn set_parameter_request_list(&mut self, list: &'a [u8])
+        requires { IsRequestList list.now }
+        ensures { self.new ≡ record self.old { settings = record self.old.settings { parameters = list.entry.now } } }
+    {
+        self.config.parameters = list;
+    }
+
+    pub fn max_lease_duration(&self) -> Option<Duration>
+        ensures { result ≡ self.now.settings.max_lease }
+    {
+        self.config.max_lease
+    }
+
+    /// A lease is cut down to it; `None` for no such cap.
+    pub fn set_max_lease_duration(&mut self, max: Option<Duration>)
+        ensures { self.new ≡ record self.old { settings = record self.old.settings { max_lease = max } } }
+    {
+        self.config.max_lease = max;
+    }
+
+    pub fn ignore_naks(&self) -> bool
+        ensures { result ≡ self.now.settings.ignore_naks }
+    {
+        self.config.ignore_naks
+    }
+
+    /// Whether refusals of servers are ignored, which RFC 2131 does not allow.
+    pub fn set_ignore_naks(&mut self, ignore: bool)
+        ensures { self.new ≡ record self.old { settings = record self.old.settings { ignore_naks = ignore } } }
+    {
+        self.config.ignore_naks = ignore;
+    }
+
+    pub fn set_ports(&mut self, server_port: u16, client_port: u16)
+        ensures { self.new ≡ record self.old {
+          settings
+              = record self.old.settings { server_port = server_port; client_port = client_port };
+        } }
+    {
+        self.config.server_port = server_port;
+        self.config.client_port = client_port;
+    }
+
+    /// Gives a lease up, and discovers anew.
+    pub fn reset(&mut self)
+        ensures { self.new ≡ after_reset self.old }
+    {
+        if let ClientState::Renewing(_) = self.state {
+            self.config_changed = true;
+        }
+        self.state = ClientState::Discovering {
+            retry_at: Instant::ZERO,
+        };
+        self.dns_servers = ArrayVec::new();
+    }
+
+    /// The configuration, where it changed since the last event.
+    pub fn poll(&mut self) -> Option<Event>
+        ensures value { option_map told_by result ≡ event_of self.old }
+        ensures others { self.new ≡ record self.old { changed = false } }
+    {
+        if !self.config_changed {
+            return None;
+        }
+        let _options = self.config.options;
+        self.config_changed = false;
+        match self.state {
+            ClientState::Discovering { .. } => Some(Event::Deconfigured),
+            ClientState::Requesting { .. } => Some(Event::Deconfigured),
+            ClientState::Renewing(lease) => Some(Event::Configured(Config {
+                server: lease.server,
+                address: lease.address,
+                router: lease.router,
+                dns_servers: copy_of(&self.dns_servers),
+            })),
+        }
+    }
+
     /// When to call `dispatch` next: before, it sends nothing.
     pub fn poll_at(&self) -> Instant
         ensures { result ≡ poll_at_of self.now.state }
     {
         match self.state {
             ClientState::Discovering { retry_at } => retry_at,
+            ClientState::Requesting { retry_at, .. } => retry_at,
+            ClientState::Renewing(lease) => lease.poll_at(),
+        }
+    }
+
+    /// Takes in what arrived from a server's port and address; bytes that are no message of a server to this client, or
+    /// none that counts now, change nothing.
+    pub fn process(&mut self, cx: &Context, src: Ipv4Address, payload: &[u8])
+        ensures value { self.new ≡ after_message self.old cx.entry.now src (message_at payload.entry.now) }
+        ensures others { self.new.settings ≡ self.old.settings }
+    {
+        if let Ok(message) = DhcpRepr::parse(payload) {
+            let heard = self.heard(cx, src, &message);
+            self.take(cx.now, heard);
+        }
+    }
+
+    /// What a message from an address says to this client.
+    fn heard(&self, cx: &Context, src: Ipv4Address, message: &DhcpRepr<'_>) -> Heard
+        ensures { heard_value result ≡ heard_in self.now cx.entry.now src (message_of message.entry.now) }
+    {
+        if self.is_for(cx, message) {
+            heard_from(&self.config, cx.now, src, message)
+        } else {
+            Heard::Nothing
+        }
+    }
+
+    /// Whether a message is for this hardware address, with the id of the message sent last.
+    fn is_for(&self, cx: &Context, message: &DhcpRepr<'_>) -> bool
+        ensures { result ≡ is_for self.now cx.entry.now (message_of message.entry.now) }
+    {
+        message.client_hardware_address == cx.hardware_addr
+            && message.transaction_id == self.transaction_id
+    }
+
+    fn take(&mut self, now: Instant, heard: Heard)
+        ensures { self.new ≡ after_heard (heard_value heard) now self.old }
+    {
+        match heard {
+            Heard::Nothing => {}
+            Heard::Offer(server, address) => self.take_offer(server, address, now),
+            Heard::Ack(granted) => self.take_ack(granted),
+            Heard::Refusal => self.take_refusal(),
+        }
+    }
+
+    fn take_offer(&mut self, server: ServerInfo, requested_ip: Ipv4Address, now: Instant)
+        ensures { self.new ≡ after_offer self.old.state server requested_ip now self.old }
+    {
+        match self.state {
+            ClientState::Discovering { .. } => {
+                self.state = ClientState::Requesting {
+                    retry_at: now,
+                    retry: 0,
+                    server,
+                    requested_ip,
+                };
+            }
+            ClientState::Requesting { .. } => {}
+            ClientState::Renewing(_) => {}
+        }
+    }
+
+    fn take_ack(&mut self, granted: Granted)
+        ensures { self.new ≡ after_ack self.old.state (granted_value granted) self.old }
+    {
+        match self.state {
+            ClientState::Discovering { .. } => {}
+            ClientState::Requesting { server, .. } => {
+                self.state = ClientState::Renewing(granted.lease(server));
+                self.dns_servers = granted.dns_servers;
+                self.config_changed = true;
+            }
+            ClientState::Renewing(lease) => {
+                let _options = self.config.options;
+                let same = granted.is_same_config(&lease, &self.dns_servers);
+                self.state = ClientState::Renewing(granted.lease(lease.server));
+                self.dns_servers = granted.dns_servers;
+                self.config_changed = self.config_changed || !same;
+            }
+        }
+    }
+
+    fn take_refusal(&mut self)
+        ensures { self.new ≡ after_refusal self.old.state self.old }
+    {
+        match self.state {
+            ClientState::Discovering { .. } => {}
+            ClientState::Requesting { .. } => self.reset(),
+            ClientState::Renewing(_) => self.reset(),
         }
     }
 
@@ -97,9 +301,7 @@ impl<'a> Socket<'a> {
         match self.plan(cx, word) {
             Plan::Wait => Ok(()),
             Plan::Restart => {
-                self.state = ClientState::Discovering {
-                    retry_at: Instant::ZERO,
-                };
+                self.reset();
                 Ok(())
             }
             Plan::Send {
@@ -113,33 +315,6 @@ impl<'a> Socket<'a> {
                 self.transaction_id = outgoing.dhcp.transaction_id;
                 Ok(())
             }
-        }
-    }
-
-    /// What is due.
-    fn plan(&self, cx: &Context, word: u32) -> Plan<'a>
-        requires { AreSettingsWritable self.now.settings cx.now.ip_mtu }
-        ensures value { plan_value result ≡ plan_for self.now cx.entry.now word }
-        ensures writable { IsWritablePlan (plan_value result) }
-    {
-        match self.state {
-            ClientState::Discovering { retry_at } if retry_at <= cx.now => {
-                let discover = discover(
-                    cx.hardware_addr,
-                    cx.ip_mtu,
-                    self.config.parameters,
-                    self.config.options,
-                    word,
-                );
-                Plan::Send {
-                    outgoing: broadcast(self.config.client_port, self.config.server_port, discover),
-                    before: self.state,
-                    after: ClientState::Discovering {
-                        retry_at: cx.now + self.config.retry.discover_timeout,
-                    },
-                }
-            }
-            ClientState::Discovering { .. } => Plan::Wait,
         }
     }
 }

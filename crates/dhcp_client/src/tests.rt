@@ -1,8 +1,13 @@
-//! A client over an emitter that remembers, and refuses at will.
+//! A client over an emitter that remembers, and refuses at will, with messages as servers write them.
 ghost use Rattle.std.specs.Prelude.{◌≡◌, ⊤};
 
-use crate::{DhcpEmit, Socket};
-use net_wire::{Context, DhcpRepr, EmitError, EthernetAddress, Instant, Ipv4Repr, UdpRepr};
+use crate::{Config, DhcpEmit, Event, ServerInfo, Socket};
+use arrayvec::ArrayVec;
+use net_wire::{
+    Context, DhcpRepr, EmitError, EthernetAddress, Instant, Ipv4Address, Ipv4Cidr, Ipv4Repr,
+    UdpRepr,
+};
+use wire_base::number::append;
 
 /// Remembers how many messages it took, and what the last of them was.
 #[derive(Default, Drop)]
@@ -11,6 +16,7 @@ struct Recorder {
     count: u32,
     transaction_id: u32,
     message_len: usize,
+    destination: Ipv4Address,
 }
 
 impl DhcpEmit for Recorder {
@@ -30,6 +36,7 @@ impl DhcpEmit for Recorder {
         self.count = self.count.saturating_add(1);
         self.transaction_id = dhcp.transaction_id;
         self.message_len = ip.payload_len - 8;
+        self.destination = ip.dst_addr;
         Ok(())
     }
 }
@@ -45,35 +52,140 @@ fn at(micros: i64) -> Context
     }
 }
 
+const SERVER: Ipv4Address = Ipv4Address([192, 168, 1, 1]);
+
+const LEASED: Ipv4Address = Ipv4Address([192, 168, 1, 42]);
+
+/// The options behind the type of an offer or an acknowledgement: server 192.168.1.1, which is the router too, mask
+/// 255.255.255.0, a lease of 1000 seconds, name server 192.168.1.53.
+const OPTIONS: [u8; 31] = [
+    54, 4, 192, 168, 1, 1, 3, 4, 192, 168, 1, 1, 1, 4, 255, 255, 255, 0, 51, 4, 0, 0, 3, 232, 6, 4,
+    192, 168, 1, 53, 255,
+];
+
+/// A message of the server of a type, with this id, to the host's hardware address.
+fn reply(message_type: u8, id: u32) -> [u8; 300] {
+    let mut message = [0; 300];
+    append(&mut message, 0, &[2, 1, 6, 0]);
+    append(&mut message, 4, &id.to_be_bytes());
+    append(&mut message, 16, &LEASED.0);
+    append(&mut message, 28, &[2; 6]);
+    append(
+        &mut message,
+        236,
+        &[0x63, 0x82, 0x53, 0x63, 53, 1, message_type],
+    );
+    append(&mut message, 243, &OPTIONS);
+    message
+}
+
+/// When and how the client went on: due in microseconds, messages, id and length of the last one.
+fn standing(socket: &Socket<'_>, out: &Recorder) -> (i64, u32, u32, usize) {
+    (
+        socket.poll_at().total_micros(),
+        out.count,
+        out.transaction_id,
+        out.message_len,
+    )
+}
+
 #[test]
 fn discovers_again_after_ten_seconds(rt: HostRuntime) {
     let mut socket = Socket::new();
     let mut out = Recorder::default();
-    let answer = socket.dispatch(&at(0), 7, &mut out);
-    assert_eq!(rt; answer, Ok(()));
-    assert_eq!(rt;
-        (out.count, out.transaction_id, out.message_len),
-        (1, 7, 262)
-    );
-    assert_eq!(rt; socket.poll_at().total_micros(), 10_000_000);
-    let answer = socket.dispatch(&at(9_999_999), 8, &mut out);
-    assert_eq!(rt; answer, Ok(()));
-    assert_eq!(rt; (out.count, out.transaction_id), (1, 7));
-    let answer = socket.dispatch(&at(10_000_000), 9, &mut out);
-    assert_eq!(rt; answer, Ok(()));
-    assert_eq!(rt; (out.count, out.transaction_id), (2, 9));
+    for (micros, word, want) in [
+        (0, 7, (10_000_000, 1, 7, 262)),
+        (9_999_999, 8, (10_000_000, 1, 7, 262)),
+        (10_000_000, 9, (20_000_000, 2, 9, 262)),
+    ] {
+        let answer = socket.dispatch(&at(micros), word, &mut out);
+        assert_eq!(rt; answer, Ok(()));
+        assert_eq!(rt; standing(&socket, &out), want);
+    }
 }
 
 #[test]
 fn a_refused_discover_stays_due(rt: HostRuntime) {
     let mut socket = Socket::new();
-    let mut out = Recorder {
-        refuses: true,
-        count: 0,
-        transaction_id: 0,
-        message_len: 0,
-    };
+    let mut out = Recorder::default();
+    out.refuses = true;
     let answer = socket.dispatch(&at(3), 7, &mut out);
     assert_eq!(rt; answer, Err(EmitError::Unresolved));
     assert_eq!(rt; (out.count, socket.poll_at().total_micros()), (0, 0));
+}
+
+#[test]
+fn requests_are_repeated_and_given_up(rt: HostRuntime) {
+    let mut socket = Socket::new();
+    let mut out = Recorder::default();
+    socket.process(&at(0), SERVER, &reply(2, 1));
+    for (secs, want) in [
+        (0, (5_000_000, 1, 1, 274)),
+        (5, (10_000_000, 2, 1, 274)),
+        (10, (20_000_000, 3, 1, 274)),
+        (20, (30_000_000, 4, 1, 274)),
+        (30, (50_000_000, 5, 1, 274)),
+        (50, (0, 5, 1, 274)),
+        (50, (60_000_000, 6, 9, 262)),
+    ] {
+        let answer = socket.dispatch(&at(secs * 1_000_000), 9, &mut out);
+        assert_eq!(rt; answer, Ok(()));
+        assert_eq!(rt; standing(&socket, &out), want);
+    }
+}
+
+#[test]
+fn a_lease_is_renewed_and_ends(rt: HostRuntime) {
+    let mut socket = Socket::new();
+    let mut out = Recorder::default();
+    assert_eq!(rt; socket.poll(), Some(Event::Deconfigured));
+    socket.process(&at(0), SERVER, &reply(2, 1));
+    socket.process(&at(0), SERVER, &reply(5, 2));
+    assert_eq!(rt; socket.poll(), None);
+    socket.process(&at(0), SERVER, &reply(5, 1));
+    let mut dns_servers = ArrayVec::new();
+    dns_servers.push(Ipv4Address([192, 168, 1, 53]));
+    let config = Config {
+        server: ServerInfo {
+            address: SERVER,
+            identifier: SERVER,
+        },
+        address: Ipv4Cidr {
+            address: LEASED,
+            prefix_len: 24,
+        },
+        router: Some(SERVER),
+        dns_servers,
+    };
+    assert_eq!(rt; socket.poll(), Some(Event::Configured(config)));
+    assert_eq!(rt; socket.poll(), None);
+    for (micros, due, destination) in [
+        (500_000_000, 687_500_000, SERVER),
+        (687_500_000, 781_250_000, SERVER),
+        (781_250_000, 841_250_000, SERVER),
+        (841_250_000, 875_000_000, SERVER),
+        (875_000_000, 937_500_000, Ipv4Address::BROADCAST),
+        (937_500_000, 997_500_000, Ipv4Address::BROADCAST),
+        (997_500_000, 1_000_000_000, Ipv4Address::BROADCAST),
+    ] {
+        let answer = socket.dispatch(&at(micros), 9, &mut out);
+        assert_eq!(rt; answer, Ok(()));
+        assert_eq!(rt; socket.poll_at().total_micros(), due);
+        assert_eq!(rt; out.destination, destination);
+    }
+    let answer = socket.dispatch(&at(1_000_000_000), 9, &mut out);
+    assert_eq!(rt; answer, Ok(()));
+    assert_eq!(rt; (out.count, socket.poll()), (7, Some(Event::Deconfigured)));
+}
+
+#[test]
+fn a_refusal_ends_a_lease_unless_ignored(rt: HostRuntime) {
+    for (ignored, due) in [(false, 0), (true, 500_000_000)] {
+        let mut socket = Socket::new();
+        socket.set_ignore_naks(ignored);
+        socket.process(&at(0), SERVER, &reply(2, 1));
+        socket.process(&at(0), SERVER, &reply(5, 1));
+        socket.process(&at(1), SERVER, &reply(6, 1));
+        assert_eq!(rt; socket.poll_at().total_micros(), due);
+    }
 }

@@ -1,2 +1,7 @@
 pub mod NameLemmas
 pub mod SlotLemmas
+pub mod AnswerLemmas
+pub mod ChainLemmas
+pub mod ResponseLemmas
+pub mod WalkLemmas
+pub mod UndecidedLemmas

@@ -1,5 +1,5 @@
 -- The client as a value, without where its slots lie in memory.
-use Rattle.std.specs.Prelude.{◌≡◌, ℕ, ◌==◌, ◌<◌, ◌⊎◌, nat_lt, is_some, not, ◌&&◌, ◌||◌, List, length, Bool, true, Option, Some, None, Result, Ok, Err, IfOk, IfErr, OnErr, if◌then◌else◌}
+use Rattle.std.specs.Prelude.{◌≡◌, ℕ, ◌==◌, ◌<◌, ◌⊎◌, nat_lt, is_some, unwrap_or, not, ◌&&◌, ◌||◌, List, length, Bool, true, Option, Some, None, Result, Ok, Err, IfOk, IfErr, OnErr, if◌then◌else◌}
 use Rattle.std.specs.List.{list_any}
 use Rattle.std.specs.Borrow.{GName}
 use Rattle.managed.specs.Storage.{items_of, item_storage}
@@ -27,6 +27,10 @@ client_of socket = record {
   hop_limit = socket.hop_limit;
   storage = item_storage socket.queries;
 }
+
+-- the hop limit of messages, 64 where none was set (IANA's recommendation)
+abbrev pub hop_limit_of : Client → ℕ
+hop_limit_of client = unwrap_or client.hop_limit 64
 
 -- borrowed slots that are all taken have no place for a query
 abbrev pub has_no_place : Client → Bool

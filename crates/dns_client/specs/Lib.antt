@@ -5,4 +5,10 @@ pub mod Turns
 pub mod Waiting
 pub mod Query
 pub mod Slots
+pub mod AnswerChain
+pub mod AnswerRead
+pub mod Response
+pub mod Emit
+pub mod Looks
+pub mod LookRead
 pub mod Client

@@ -2,13 +2,22 @@
 //! section 5.1).
 #![tactic(auto)]
 
+mod answer;
+mod dispatch;
+mod emit;
 mod error;
+pub mod laws;
+mod look;
 mod name;
 mod query;
+mod response;
 mod slots;
 mod socket;
 mod start;
+#[cfg(test)]
+mod tests;
 
+pub use emit::DnsEmit;
 pub use error::{GetQueryResultError, StartQueryError};
 pub use name::name_bytes;
 pub use query::{DnsQuery, MulticastDns, QueryHandle};

@@ -1,19 +1,43 @@
 //! The client.
 ghost use Rattle.std.specs.Prelude.{◌≡◌, take};
+ghost use Rattle.std.specs.List.{list_any};
+ghost use Rattle.dns_client.specs.Response.{is_same_address, is_accepted, after_response, arrived_by};
+ghost use Rattle.dns_client.specs.Looks.{look, walk, Dispatched};
 
-use crate::GetQueryResultError;
+use crate::dispatch::dispatch;
 use crate::query::{DnsQuery, QueryHandle};
+use crate::response::{Arrived, DNS_PORT, MDNS_PORT, hear, is_response, is_same_address};
 use crate::slots::{free, is_live, least_due, take_result};
+use crate::{DnsEmit, GetQueryResultError};
 use arrayvec::ArrayVec;
 use managed::ManagedSlice;
-use net_wire::{Instant, IpAddress};
+use net_wire::dns::Packet;
+use net_wire::{EmitError, Instant, IpAddress};
 
 /// A DNS client (RFC 1035, section 7). Its slots are a caller's, or a list that grows.
-#[derive(Debug, Drop)]
+#[derive(Debug)]
 pub struct Socket<'a> {
     pub(crate) servers: ArrayVec<IpAddress, 3>,
     pub(crate) queries: ManagedSlice<'a, Option<DnsQuery>>,
     pub(crate) hop_limit: Option<u8>,
+}
+
+impl<'a> Drop for Socket<'a> {
+    fn drop(self) {
+        let Socket {
+            servers: _,
+            queries,
+            hop_limit: _,
+        } = self;
+        let _ = queries;
+    }
+}
+
+/// Whether an address is one of the servers.
+fn is_listed(servers: &[IpAddress], src: &IpAddress) -> bool
+    ensures { result ≡ list_any (λ server. is_same_address server src.now) servers.now }
+{
+    servers.iter().any(|server| is_same_address(server, src))
 }
 
 /// The first three servers of a list.
@@ -30,7 +54,7 @@ fn first_servers(servers: &[IpAddress]) -> ArrayVec<IpAddress, 3>
 impl<'a> Socket<'a> {
     ghost use Rattle.std.specs.Prelude.{◌≢◌, Some, None, IsTrue, IsSome, ◌↔◌};
     ghost use Rattle.managed.specs.Storage.{items_of, item_storage};
-    ghost use Rattle.dns_client.specs.Client.{client_of};
+    ghost use Rattle.dns_client.specs.Client.{client_of, hop_limit_of};
     ghost use Rattle.dns_client.specs.Slots.{slot_at, without, Gives, least_due};
 
     /// A client of the first three servers. Slots that hold queries keep them.
@@ -109,5 +133,67 @@ impl<'a> Socket<'a> {
         ensures value { result ≡ least_due (client_of self.now).slots }
     {
         least_due(self.queries.as_slice())
+    }
+
+    /// Whether a datagram may be a response: from port 53 of a server, or from the port of mDNS.
+    pub fn accepts(&self, src: IpAddress, src_port: u16) -> bool
+        ensures value { result ≡ is_accepted (client_of self.now).servers src src_port }
+    {
+        if src_port == MDNS_PORT {
+            return true;
+        }
+        if src_port == DNS_PORT {
+            return is_listed(self.servers.as_slice(), &src);
+        }
+        false
+    }
+
+    /// Lets a datagram to a port decide what it can. The address that a query asked last is the one that answers it.
+    pub fn process(&mut self, src: IpAddress, src_port: u16, dst_port: u16, payload: &[u8])
+        requires { IsTrue (is_accepted (client_of self.old).servers src src_port) }
+        ensures value { client_of self.new ≡ record (client_of self.old) {
+          slots = after_response (arrived_by src src_port dst_port payload.now) payload.now (client_of self.old).slots;
+        } }
+    {
+        let Ok(packet) = Packet::new_checked(payload) else {
+            return;
+        };
+        if !is_response(&packet) {
+            return;
+        }
+        let arrived = Arrived {
+            source: src,
+            source_port: src_port,
+            port: dst_port,
+            id: packet.transaction_id(),
+        };
+        match &mut self.queries {
+            ManagedSlice::Borrowed(slots) => hear(&arrived, &packet, slots),
+            ManagedSlice::Owned(slots) => hear(&arrived, &packet, slots.as_mut_slice()),
+        }
+    }
+
+    /// Looks at the queries in the order of their slots, until one sends its message or is refused.
+    pub fn dispatch<E: DnsEmit>(&mut self, now: Instant, out: &mut E) -> Result<(), EmitError>
+        ensures value { Dispatched E.took E.refused (hop_limit_of (client_of self.old))
+            (walk (look (E.source out.old) (client_of self.old).servers now) (client_of self.old).slots)
+            result (client_of self.new).slots out.old out.new }
+        ensures others { client_of self.new ≡ record (client_of self.old) { slots = (client_of self.new).slots } }
+    {
+        let hop_limit = match self.hop_limit {
+            Some(hop_limit) => hop_limit,
+            None => 64,
+        };
+        let servers = self.servers.as_slice();
+        match &mut self.queries {
+            ManagedSlice::Borrowed(slots) => dispatch(slots, servers, hop_limit, &now, out),
+            ManagedSlice::Owned(slots) => dispatch(
+                slots.as_mut_slice(),
+                servers,
+                hop_limit,
+                &now,
+                out,
+            ),
+        }
     }
 }

@@ -1,4 +1,5 @@
 pub mod ChainLemmas
+pub mod CutPacketLemmas
 mod ExtLemmas
 pub mod HeadersLemmas
 pub mod HeldLemmas

@@ -2,6 +2,7 @@ pub mod Auth
 pub mod Chain
 pub mod ChainSlice
 pub mod Examples
+pub mod CutPacket
 pub mod ExtensionGrammar
 pub mod Extensions
 pub mod Fragment

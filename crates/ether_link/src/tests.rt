@@ -284,3 +284,25 @@ fn laws_can_be_called() {
     laws::layout_in_place::<LenError>(&ARP_FRAME, 14, 42);
     laws::cut_law::<LenError>(&ARP_FRAME, 20);
 }
+
+/// RFC 7042, appendix B; IEEE 802.1Q; IEEE 802.1AE; RFC 826.
+#[test]
+fn numbers_are_the_registered_ones(rt: HostRuntime) {
+    for (ether_type, number) in [
+        (EtherType::IPV4, 0x0800),
+        (EtherType::ARP, 0x0806),
+        (EtherType::VLAN_TAGGED_FRAME, 0x8100),
+        (EtherType::IPV6, 0x86dd),
+        (EtherType::PROVIDER_BRIDGING, 0x88a8),
+        (EtherType::MACSEC, 0x88e5),
+        (EtherType::VLAN_DOUBLE_TAGGED_FRAME, 0x9100),
+    ] {
+        assert_eq!(rt; ether_type.0, number);
+        assert!(rt;
+            ETHERNET_KNOWN_ETHER_TYPES.contains(&ether_type),
+            "{number:x}"
+        );
+    }
+    assert_eq!(rt; ETHERNET_KNOWN_ETHER_TYPES.len(), 7);
+    assert_eq!(rt; (ArpOperation::REQUEST.0, ArpOperation::REPLY.0), (1, 2));
+}

@@ -43,8 +43,10 @@ pub record IsOneOfThree : Type 0 where
   pub some : (max : ℕ) (bytes : List ℕ)
       → IsValidScript max bytes ⊎ (IsOverLimit max bytes ⊎ ((offset : ℕ) × IsBrokenAt max bytes offset))
   pub not_over : (max : ℕ) (bytes : List ℕ) → IsValidScript max bytes → IsOverLimit max bytes → ⊥
-  pub not_broken : (max : ℕ) (bytes : List ℕ) (offset : ℕ) → IsValidScript max bytes → IsBrokenAt max bytes offset → ⊥
-  pub over_or_broken : (max : ℕ) (bytes : List ℕ) (offset : ℕ) → IsOverLimit max bytes → IsBrokenAt max bytes offset → ⊥
+  pub not_broken : (max : ℕ) (bytes : List ℕ) (offset : ℕ)
+      → IsValidScript max bytes → IsBrokenAt max bytes offset → ⊥
+  pub over_or_broken : (max : ℕ) (bytes : List ℕ) (offset : ℕ)
+      → IsOverLimit max bytes → IsBrokenAt max bytes offset → ⊥
   pub one_script : (max : ℕ) (bytes : List ℕ) (events others : List Event)
       → IsScript max bytes events → IsScript max bytes others → events ≡ others
   pub one_place : (max : ℕ) (bytes : List ℕ) (here there : ℕ)

@@ -1,8 +1,11 @@
 //! Laws over the definitions.
+ghost use Rattle.std.specs.Prelude.{◌≡◌, pos, replicate};
 ghost use Rattle.host_model.specs.Chronicle.{GrowsByEntry};
 ghost use Rattle.host_model.specs.Classes.{IsOneOfThree};
 ghost use Rattle.host_model.specs.Parts.{NoEventIsRefused};
 ghost use Rattle.host_model.specs.Script.{BeginsWithOne};
+
+use net_wire::{EthernetAddress, Instant, Ipv4Address};
 
 /// The bytes of a script are of one class: valid, over the limit, or broken, and then at one place.
 pub fn one_of_three()
@@ -23,3 +26,18 @@ pub fn no_event_is_refused()
 pub fn grows_by_entry()
     ensures { GrowsByEntry }
 {}
+
+/// The constants of addresses are all stations of a link (IEEE 802.3, section 3.2.3), no address and all hosts of a link
+/// (RFC 1122, section 3.2.1.3).
+pub fn constants()
+    ensures all_stations { EthernetAddress.BROADCAST.0 ≡ replicate 6 255 }
+    ensures no_address { Ipv4Address.UNSPECIFIED.0 ≡ replicate 4 0 }
+    ensures all_hosts { Ipv4Address.BROADCAST.0 ≡ replicate 4 255 }
+{}
+
+/// The constant `Instant::ZERO` is moment 0.
+pub fn moment_zero() -> Instant
+    ensures { result ≡ pos 0 }
+{
+    Instant::ZERO
+}

@@ -48,7 +48,8 @@ task_named run = task_of (settings_named run) (event_words run) run.max_events
 
 -- the run answered so, with what it left and why
 abbrev pub Ran : RunCommand → Outside → Outside → List Row → RunError → Type 0
-Ran run before after report error = Leaves (task_named run) before after report error × HasCause (task_named run) before after error
+Ran run before after report error =
+    Leaves (task_named run) before after report error × HasCause (task_named run) before after error
 
 -- What the run of the words left when it ended so, and why it did. There are words enough for each event.
 abbrev pub RanTo : RunCommand → Outside → Outside → List Row → Ending → Type 0
@@ -70,7 +71,8 @@ IsDone (Run run) before after report = Finished (task_named run) before after re
 
 -- the script of a command is broken
 abbrev pub HasBrokenScript : Command → Outside → Type 0
-HasBrokenScript (Run run) before = IfSome before.left (λ bytes. (offset : ℕ) × IsBrokenAt run.max_events bytes offset)
+HasBrokenScript (Run run) before =
+    IfSome before.left (λ bytes. (offset : ℕ) × IsBrokenAt run.max_events bytes offset)
 
 -- the script of a command is over the limit
 abbrev pub HasLongScript : Command → Outside → Type 0
@@ -83,10 +85,12 @@ IsComplete (Run run) before result = IfSome before.left (IsStatusOf run.max_even
 -- How the command of the words ended: where they are refused there is none.
 abbrev pub HasEnded : List (List ℕ) → Outside → Outside → List Row → Ending → Type 0
 HasEnded words before after report Refused = IsTaken words → ⊥
-HasEnded words before after report ending = ForNamed words (λ command. EndedAs command before after report ending)
+HasEnded words before after report ending =
+    ForNamed words (λ command. EndedAs command before after report ending)
 
 -- The text of the report and the last line were handed to the output, which decides on the status beside the ending.
-pub record Prints {O : Type 0} (sink : byte_sink.Ghosts O) (ending : Ending) (report : List Row) (result : ℕ) (old new : O) : Type 0 where
+pub record Prints {O : Type 0} (sink : byte_sink.Ghosts O) (ending : Ending) (report : List Row)
+    (result : ℕ) (old new : O) : Type 0 where
   pub answer : Result (Unit {0}) SinkError
   pub status : result ≡ status_after ending answer
   pub took : Took sink.bytes sink.faults sink.grows answer (report_bytes report ++ last_line ending) old new

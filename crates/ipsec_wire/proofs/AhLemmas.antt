@@ -30,8 +30,13 @@ unfolding header_bytes
 reads_back h rest w =
     let field = len_field (length h.integrity_check_value) w.words in
     let len : ((12 + length h.integrity_check_value) / 4 - 2 + 2) * 4 - 12 ≡ length h.integrity_check_value = omega arith in
-    rw (w.named, from_be_bytes-to_be_bytes_4 h.security_parameters_index w.index, from_be_bytes-to_be_bytes_4 h.sequence_number w.sequence,
-        len, take-append_seam h.integrity_check_value rest)
+    rw (
+      w.named,
+      from_be_bytes-to_be_bytes_4 h.security_parameters_index w.index,
+      from_be_bytes-to_be_bytes_4 h.sequence_number w.sequence,
+      len,
+      take-append_seam h.integrity_check_value rest,
+    )
 
 pub read_back : IsReadBack
 read_back h rest w = (is_whole h rest w, reads_back h rest w)
@@ -51,8 +56,8 @@ clears_reserved bytes all whole =
     let len : length (header_bytes (header_of bytes)) ≡ n = omega (arith, length-header_bytes (header_of bytes)) in
     let written = parts (header_of bytes) (slice_range bytes 4 8) (slice_range bytes 8 12) (to_be_bytes-be32_at bytes 4 all (omega arith)) (to_be_bytes-be32_at bytes 8 all (omega arith)) in
     let rest : drop 4 bytes ≡ slice_range bytes 4 8 ++ (slice_range bytes 8 12 ++ (icv ++ drop n bytes)) =
-        drop_split bytes 4 8 (omega arith) ∙ ap (λ part. slice_range bytes 4 8 ++ part) (drop_split bytes 8 12 (omega arith)
-          ∙ ap (λ part. slice_range bytes 8 12 ++ part) (drop_split bytes 12 n (omega arith))) in
+    drop_split bytes 4 8 (omega arith) ∙ ap (λ part. slice_range bytes 4 8 ++ part) (drop_split bytes 8 12 (omega arith)
+    ∙ ap (λ part. slice_range bytes 8 12 ++ part) (drop_split bytes 12 n (omega arith))) in
     rw (len, written, each_number_is_its_protocol (slice_index bytes 0), field, take-two bytes (omega arith))
     (ap (λ part. slice_index bytes 0 ∷ slice_index bytes 1 ∷ 0 ∷ 0 ∷ part)
-      (regrouped (slice_range bytes 4 8) (slice_range bytes 8 12) icv (drop n bytes) ∙ sym rest))
+    (regrouped (slice_range bytes 4 8) (slice_range bytes 8 12) icv (drop n bytes) ∙ sym rest))

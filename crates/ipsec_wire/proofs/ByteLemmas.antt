@@ -19,7 +19,7 @@ pub to_be_bytes-be32_at : (bytes : List ℕ) (at : ℕ) → All (λ byte. byte <
 to_be_bytes-be32_at bytes at all within =
     let four : length (slice_range bytes at (at + 4)) ≡ 4 = grind (arith, length-take, length-drop) in
     be_bytes_4 (slice_range bytes at (at + 4)) (be32_at bytes at) four
-      (λ i. byte_at (slice_range bytes at (at + 4)) i (All-take (λ byte. byte < 256) (at + 4 - at) (drop at bytes) (All-drop (λ byte. byte < 256) at bytes all))) refl
+    (λ i. byte_at (slice_range bytes at (at + 4)) i (All-take (λ byte. byte < 256) (at + 4 - at) (drop at bytes) (All-drop (λ byte. byte < 256) at bytes all))) refl
 
 -- the first two bytes
 pub take-two : (bytes : List ℕ) → 2 ≤ length bytes → take 2 bytes ≡ slice_index bytes 0 ∷ slice_index bytes 1 ∷ []

@@ -28,5 +28,5 @@ pub changes_nothing : ChangesNothing
 changes_nothing bytes all whole =
     let written = parts (header_of bytes) (slice_range bytes 0 4) (slice_range bytes 4 8) (to_be_bytes-be32_at bytes 0 all (omega arith)) (to_be_bytes-be32_at bytes 4 all (omega arith)) in
     let rest : bytes ≡ slice_range bytes 0 4 ++ (slice_range bytes 4 8 ++ drop 8 bytes) =
-        drop_split bytes 0 4 (omega arith) ∙ ap (λ part. slice_range bytes 0 4 ++ part) (drop_split bytes 4 8 (omega arith)) in
+    drop_split bytes 0 4 (omega arith) ∙ ap (λ part. slice_range bytes 0 4 ++ part) (drop_split bytes 4 8 (omega arith)) in
     rw written (append_assoc (slice_range bytes 0 4) (slice_range bytes 4 8) (drop 8 bytes) ∙ sym rest)

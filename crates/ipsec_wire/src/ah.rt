@@ -196,19 +196,18 @@ pub struct Repr<'a> {
 impl<'a> Repr<'a> {
     ghost use Rattle.ipsec_wire.specs.AhRepr.{header_value};
 
-    pub fn new(
-        next_header: IpProtocol,
-        spi: u32,
-        sequence: u32,
-        icv: &'a [u8],
-    ) -> Repr<'a>
+    pub fn new(next_header: IpProtocol, spi: u32, sequence: u32, icv: &'a [u8]) -> Repr<'a>
         requires words { length icv.now % 4 ≡ 0 }
         requires fits { length icv.now ≤ 1016 }
         // An unknown next header does not hold the number of a named one.
         requires named { IsNamed next_header }
         ensures value { header_value result
-            ≡ record { next_header = next_header; security_parameters_index = spi;
-                sequence_number = sequence; integrity_check_value = icv.now } }
+            ≡ record {
+              next_header = next_header;
+              security_parameters_index = spi;
+              sequence_number = sequence;
+              integrity_check_value = icv.now;
+            } }
     {
         Repr {
             next_header,

@@ -96,7 +96,7 @@ restarted : (settings : Settings) (before : List Entry) (event : Event) (words :
     → KnowsHops settings before event out → AgreesUnder settings before anchor client
     → Polled cx words.first client out last later → Answered settings before event words (Loss (length before)) last later
 restarted settings before event words anchor cx client last out later fair is_cx in_range restart knows agrees (IsQuiet _ _ _ _ early) =
-    let waits = waits_in client.state client.settings cx words.first early in absurd (cc (waits, restart))
+    let waits = waits_in client.state client.settings client.transaction_id cx words.first early in absurd (cc (waits, restart))
 restarted settings before event words anchor cx client last out later fair is_cx in_range restart knows agrees (GoesOn _ _ _ next _ _ mid _ on_time done more) =
     let begun = began_anew (plan_for client cx words.first) client next out mid restart done in
     let P : Client → Type 0 = λ c. AgreesUnder settings before (Loss (length before)) c in

@@ -19,10 +19,10 @@ use Rattle.net_host.proofs.PlannedLemmas.{Planned, PlansMessage, IsContextOf, Is
 
 -- what a client plans that goes by an anchor
 plan_is : (settings : Settings) (before : List Entry) (anchor : Anchor) (client : Client) (cx : Context) (word : ℕ) → AgreesUnder settings before anchor client
-    → plan_for client cx word ≡ plan_in (state_under settings before anchor) settings.client cx word
+    → plan_for client cx word ≡ plan_in (state_under settings before anchor) settings.client client.transaction_id cx word
 plan_is settings before anchor client cx word agrees =
-    ap (λ (s : ClientState). plan_in s client.settings cx word) agrees.state
-    ∙ ap (λ (t : ClientSettings). plan_in (state_under settings before anchor) t cx word) agrees.told
+    ap (λ (s : ClientState). plan_in s client.settings client.transaction_id cx word) agrees.state
+    ∙ ap (λ (t : ClientSettings). plan_in (state_under settings before anchor) t client.transaction_id cx word) agrees.told
 
 pub plans : (settings : Settings) (before : List Entry) (at : ℕ) (words : EventWords) (anchor : Anchor) (client : Client) (cx : Context)
     → IsFair settings.client.retry → IsContextOf settings at cx → at < time_limit → AgreesUnder settings before anchor client
@@ -30,7 +30,7 @@ pub plans : (settings : Settings) (before : List Entry) (at : ℕ) (words : Even
 plans settings before at words anchor client cx fair is_cx in_range agrees =
     let P : Plan → Type 0 = λ p. Planned settings (times_since (place_of anchor) before) at words anchor p in
     subst P (sym (plan_is settings before anchor client cx words.first agrees))
-    (planned settings (times_since (place_of anchor) before) at words anchor cx fair is_cx in_range)
+    (planned settings (times_since (place_of anchor) before) at words anchor client.transaction_id cx fair is_cx in_range)
 
 -- when it is due
 pub due_is : (settings : Settings) (before : List Entry) (anchor : Anchor) (client : Client) → AgreesUnder settings before anchor client

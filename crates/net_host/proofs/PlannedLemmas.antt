@@ -70,10 +70,10 @@ Planned settings sent at words anchor plan =
     PlansRestart settings sent at anchor plan
     ⊎ (PlansMessage settings sent at words anchor plan ⊎ PlansNothing settings sent at anchor plan)
 
-loss_planned : (settings : Settings) (sent : List ℕ) (at : ℕ) (words : EventWords) (place : ℕ) (cx : Context)
+loss_planned : (settings : Settings) (sent : List ℕ) (at : ℕ) (words : EventWords) (place id : ℕ) (cx : Context)
     → IsFair settings.client.retry → IsContextOf settings at cx → at < time_limit
-    → Planned settings sent at words (Loss place) (plan_in (state_with settings.client.retry sent (Loss place)) settings.client cx words.first)
-loss_planned settings sent at words place cx fair is_cx in_range =
+    → Planned settings sent at words (Loss place) (plan_in (state_with settings.client.retry sent (Loss place)) settings.client id cx words.first)
+loss_planned settings sent at words place id cx fair is_cx in_range =
     let due = loss_due settings.client.retry sent in
     ⊎_elim
     (λ (early : at < due). inr (inr (record {
@@ -98,10 +98,10 @@ loss_planned settings sent at words place cx fair is_cx in_range =
     (cases_lt at due)
 
 -- under each anchor the client plans what the history names
-pub planned : (settings : Settings) (sent : List ℕ) (at : ℕ) (words : EventWords) (anchor : Anchor) (cx : Context)
+pub planned : (settings : Settings) (sent : List ℕ) (at : ℕ) (words : EventWords) (anchor : Anchor) (id : ℕ) (cx : Context)
     → IsFair settings.client.retry → IsContextOf settings at cx → at < time_limit
-    → Planned settings sent at words anchor (plan_in (state_with settings.client.retry sent anchor) settings.client cx words.first)
-planned settings sent at words (Loss place) cx fair is_cx in_range = loss_planned settings sent at words place cx fair is_cx in_range
+    → Planned settings sent at words anchor (plan_in (state_with settings.client.retry sent anchor) settings.client id cx words.first)
+planned settings sent at words (Loss place) id cx fair is_cx in_range = loss_planned settings sent at words place id cx fair is_cx in_range
 
 -- a client that goes on is due when the history says so
 pub poll_at_is : (retry : RetryConfig) (sent : List ℕ) (anchor : Anchor) → poll_at_of (state_with retry sent anchor) ≡ pos (due_under retry sent anchor)

@@ -15,7 +15,8 @@ abbrev pub event_at : ℤ → ScriptEvent → Event
 event_at at event = record { at = epoch_micros at; arrival = elim event [ script.Tick ↦ Tick ] }
 
 -- The next event: it stood whole in front of what was left, and may come next.
-pub record GivesEvent (max : ℕ) (old new : ReaderState) (left_old left_new : Option (List ℕ)) (at : ℤ) (event : ScriptEvent) : Type 0 where
+pub record GivesEvent (max : ℕ) (old new : ReaderState) (left_old left_new : Option (List ℕ))
+    (at : ℤ) (event : ScriptEvent) : Type 0 where
   pub front : List ℕ
   pub within : old.events < max
   pub next : IsNext old.last (event_at at event)
@@ -44,7 +45,8 @@ EndsWith Limit last left part = length part ≡ 1
 EndsWith Read last left part = IsInside last part
 
 -- No event, by this answer: it took no more than it had to.
-pub record RefusesEvent (max : ℕ) (old new : ReaderState) (left_old left_new : Option (List ℕ)) (error : ReadEventError) : Type 0 where
+pub record RefusesEvent (max : ℕ) (old new : ReaderState) (left_old left_new : Option (List ℕ))
+    (error : ReadEventError) : Type 0 where
   pub part : List ℕ
   pub took : Consumes left_old left_new part
   pub ends : EndsWith error old.last left_new part

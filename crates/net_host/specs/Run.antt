@@ -32,7 +32,8 @@ task_of settings words max = record { settings = settings; words = words; max = 
 
 -- The events are answered: each had three words and has its row, and the capture grew by its header and the frames of the
 -- rows.
-pub record AreAnswered (task : Task) (before after : Outside) (report : List Row) (events : List Event) : Type 0 where
+pub record AreAnswered (task : Task) (before after : Outside) (report : List Row)
+    (events : List Event) : Type 0 where
   pub enough : 3 * length events ≤ length task.words
   pub rows : AreRows task.settings task.words events report
   pub captured : Appends before.captured after.captured (run_capture events report)
@@ -62,7 +63,8 @@ abbrev pub EndsBy : {task : Task} {before after : Outside} → ReadEventError �
 EndsBy {task} {before} {after} error taken = EndsWith error (last_time 0 taken.events) after.left taken.part
 
 -- A run that stopped between two events, and ended so: all events that it took are answered.
-pub record Stopped (task : Task) (before after : Outside) (report : List Row) (Ends : Taken task before after → Type 0) : Type 0 where
+pub record Stopped (task : Task) (before after : Outside) (report : List Row)
+    (Ends : Taken task before after → Type 0) : Type 0 where
   pub taken : Taken task before after
   pub ends : Ends taken
   pub answered : AreAnswered task before after report taken.events
@@ -79,7 +81,8 @@ pub record RanOut (task : Task) (before after : Outside) (report : List Row) : T
 
 -- the address that is held when an event comes behind these
 abbrev pub lease_before : Task → List Event → Option Ipv4Cidr
-lease_before task events = leased_under (anchor_before task.settings (history task.settings task.words events))
+lease_before task events =
+    leased_under (anchor_before task.settings (history task.settings task.words events))
 
 -- the last row is that of an event in which nothing was sent yet
 pub record IsUnfinished (task : Task) (report : List Row) (events : List Event) : Type 0 where
@@ -87,7 +90,8 @@ pub record IsUnfinished (task : Task) (report : List Row) (events : List Event) 
   pub event : Event
   pub done : List Row
   pub event_last : events ≡ earlier ++ event ∷ []
-  pub row_last : report ≡ done ++ new_row (pos event.at) (kind_of event.arrival) (lease_before task earlier) ∷ []
+  pub row_last : report
+      ≡ done ++ new_row (pos event.at) (kind_of event.arrival) (lease_before task earlier) ∷ []
   pub rows : AreRows task.settings task.words earlier done
 
 -- the last event has no row yet
@@ -99,11 +103,13 @@ pub record LacksRow (task : Task) (report : List Row) (events : List Event) : Ty
 
 -- the events have their rows, but the last one may be unfinished
 abbrev pub HasRows : Task → List Row → List Event → Type 0
-HasRows task report events = AreRows task.settings task.words events report ⊎ IsUnfinished task report events
+HasRows task report events =
+    AreRows task.settings task.words events report ⊎ IsUnfinished task report events
 
 -- A run that stopped inside an event, or in front of the first one: it took whole events and nothing behind them, and the
 -- capture is a front of that of the rows.
-pub record Interrupted (task : Task) (before after : Outside) (report : List Row) (Rows : List Event → Type 0) : Type 0 where
+pub record Interrupted (task : Task) (before after : Outside) (report : List Row)
+    (Rows : List Event → Type 0) : Type 0 where
   pub taken : Taken task before after
   pub whole : taken.part ≡ []
   pub rows : Rows taken.events
@@ -112,7 +118,8 @@ pub record Interrupted (task : Task) (before after : Outside) (report : List Row
 -- what a run leaves that did not end well, by its answer
 abbrev pub Leaves : Task → Outside → Outside → List Row → RunError → Type 0
 Leaves task before after report (Script offset) =
-    Stopped task before after report (λ taken. (offset ≡ length taken.front) × EndsBy (read.Script offset) taken)
+    Stopped task before after report
+    (λ taken. (offset ≡ length taken.front) × EndsBy (read.Script offset) taken)
 Leaves task before after report Limit =
     Stopped task before after report (λ taken. (length taken.events ≡ task.max) × EndsBy read.Limit taken)
 Leaves task before after report Words = RanOut task before after report
@@ -126,7 +133,8 @@ pub record HasFewWords (task : Task) (before : Outside) : Type 0 where
   pub events : List Event
   pub few : length events ≤ task.max
   pub short : length task.words < 3 * length events
-  pub read : IfSome before.left (λ bytes. (front : List ℕ) × (more : List ℕ) × BeginsWith events front more bytes)
+  pub read : IfSome before.left (λ bytes.
+      (front : List ℕ) × (more : List ℕ) × BeginsWith events front more bytes)
 
 -- Why a run did not end well, by its answer: the bytes of the script, the words, or a count of faults that rose; want of
 -- memory is free. No other count of faults changed.
@@ -143,6 +151,7 @@ HasCause task before after NoMemory = IsQuiet before after
 
 -- A run of a valid script, with three words an event and no fault of source or capture, ends well unless memory runs out.
 abbrev pub Completes : Task → Outside → Outside → Result (Unit {0}) RunError → Type 0
-Completes task before after result = IfSome before.left (λ bytes. (events : List Event) → IsScript task.max bytes events
+Completes task before after result = IfSome before.left (λ bytes. (events : List Event)
+    → IsScript task.max bytes events
     → 3 * length events ≤ length task.words → ¬ IsRisen before.read_faults after.read_faults
     → ¬ IsRisen before.capture_faults after.capture_faults → IsOk result ⊎ IsErrOf result NoMemory)

@@ -20,7 +20,9 @@ pub record Filled {S : Type 0} (left : S → Option (List ℕ)) (faults : S → 
     (old new : S) : Type 0 where
   pub bytes : (i : ℕ) → slice_index into i < 256
   pub full : result ≡ Ok true → Consumes (left old) (left new) into
-  pub short : result ≡ Ok false → (front : List ℕ) × (length front < length into) × Consumes (left old) (left new) front × IsAtEnd (left new)
-  pub failed : OnErr result ((front : List ℕ) × (length front < length into) × Consumes (left old) (left new) front)
+  pub short : result ≡ Ok false
+      → (front : List ℕ) × (length front < length into) × Consumes (left old) (left new) front × IsAtEnd (left new)
+  pub failed : OnErr result (
+      (front : List ℕ) × (length front < length into) × Consumes (left old) (left new) front)
   pub quiet : OnOk result (faults new ≡ faults old)
   pub cause : OnErr result ((faults old ≤ faults new) × IsRisen (faults old) (faults new))

@@ -72,7 +72,8 @@ impl EventReader {
             GivesEvent max_events self.old self.new (S.left source.old) (S.left source.new) e.0 e.1)) }
         ensures ended { IfOk result (λ found. IfNone found (
             IsThrough max_events self.old self.new (S.left source.old) (S.left source.new))) }
-        ensures err { IfErr result (RefusesEvent max_events self.old self.new (S.left source.old) (S.left source.new)) }
+        ensures err { IfErr result (
+            RefusesEvent max_events self.old self.new (S.left source.old) (S.left source.new)) }
         // Why no event comes.
         ensures script { IfErr result (λ e. (o : ℕ) → e ≡ Script o
             → (o ≡ self.old.offset) × (self.old.events < max_events)

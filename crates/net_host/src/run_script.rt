@@ -82,7 +82,8 @@ impl From<NoMemory> for RunError {
 
 /// The words of the event at a place, where all three are left.
 fn words_at(words: &[u32], place: u32) -> Option<EventWords>
-    ensures found { IfSome result (λ drawn. (drawn ≡ words_at words.now place) × (3 * (place + 1) ≤ length words.now)) }
+    ensures found { IfSome result (λ drawn.
+        (drawn ≡ words_at words.now place) × (3 * (place + 1) ≤ length words.now)) }
     ensures refuses { IfNone result (length words.now < 3 * (place + 1)) }
 {
     let first = place as usize * 3;
@@ -110,7 +111,8 @@ fn kind_of(event: ScriptEvent) -> Kind
 fn capture_sent<C: PcapSink>(capture: &mut C, at: Instant, sent: &[Sent]) -> Result<(), SinkError>
     requires time { IsCapturable at }
     requires within { AreCapturable sent.now }
-    ensures { Took C.bytes C.faults C.grows result (sent_records (epoch_micros at) sent.now) capture.old capture.new }
+    ensures { Took C.bytes C.faults C.grows result
+        (sent_records (epoch_micros at) sent.now) capture.old capture.new }
 {
     for frame in sent {
         capture.packet(at, frame.frame.as_slice())?;
@@ -130,12 +132,15 @@ fn take_event<C: PcapSink>(
     requires ready { IsReady host.old.dhcp host.old.ip_mtu }
     requires time { IsCapturable at }
     ensures ok { OnOk result (TakesEvent at event words
-        (standing host.old (C.bytes capture.old) report.old) (standing host.new (C.bytes capture.new) report.new)) }
+        (standing host.old (C.bytes capture.old) report.old)
+        (standing host.new (C.bytes capture.new) report.new)) }
     ensures cause { IfErr result (λ e. (e ≡ RunError.Sink) ⊎ (e ≡ RunError.NoMemory)) }
     ensures sink { IsErrOf result RunError.Sink → LeavesRow at event words
-        (standing host.old (C.bytes capture.old) report.old) (standing host.new (C.bytes capture.new) report.new) }
+        (standing host.old (C.bytes capture.old) report.old)
+        (standing host.new (C.bytes capture.new) report.new) }
     ensures memory { IsErrOf result RunError.NoMemory → LeavesEvent at event words
-        (standing host.old (C.bytes capture.old) report.old) (standing host.new (C.bytes capture.new) report.new) }
+        (standing host.old (C.bytes capture.old) report.old)
+        (standing host.new (C.bytes capture.new) report.new) }
     ensures risen { IsErrOf result RunError.Sink → IsRisen (C.faults capture.old) (C.faults capture.new) }
     ensures quiet { (IsErrOf result RunError.Sink → ⊥) → C.faults capture.new ≡ C.faults capture.old }
     ensures later { C.faults capture.old ≤ C.faults capture.new }
@@ -175,7 +180,8 @@ pub fn run<S: ScriptSource, C: PcapSink>(
     ensures cause { IfErr result (HasCause (task_of config.now words.now max_events)
         (outside_of S.ScriptSource C.ByteSink source.old capture.old)
         (outside_of S.ScriptSource C.ByteSink source.new capture.new)) }
-    ensures later { (S.faults source.old ≤ S.faults source.new) × (C.faults capture.old ≤ C.faults capture.new) }
+    ensures later { (S.faults source.old ≤ S.faults source.new)
+        × (C.faults capture.old ≤ C.faults capture.new) }
     // It stops without a cause only where memory runs out.
     ensures complete { Completes (task_of config.now words.now max_events)
         (outside_of S.ScriptSource C.ByteSink source.old capture.old)

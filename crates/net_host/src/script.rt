@@ -96,9 +96,11 @@ pub(crate) fn read_head<S: ScriptSource>(
 ) -> Result<Option<Head>, ReadEventError>
     ensures found { IfOk result (λ found. IfSome found (λ head.
         (is_full ≡ false) × GivesHead last_micros (S.left source.old) (S.left source.new) head)) }
-    ensures ended { IfOk result (λ found. IfNone found (IsAtEnd (S.left source.old) × IsAtEnd (S.left source.new))) }
+    ensures ended { IfOk result (λ found. IfNone found (
+        IsAtEnd (S.left source.old) × IsAtEnd (S.left source.new))) }
     ensures err { IfErr result (λ e. (part : List ℕ)
-        × Consumes (S.left source.old) (S.left source.new) part × EndsWith e last_micros (S.left source.new) part) }
+        × Consumes (S.left source.old) (S.left source.new) part
+        × EndsWith e last_micros (S.left source.new) part) }
     ensures script { IfErr result (λ e. (o : ℕ) → e ≡ Script o → (o ≡ offset) × (is_full ≡ false)) }
     ensures limit { IsErrOf result Limit → is_full ≡ true }
     ensures read { IsErrOf result Read → IsRisen (S.faults source.old) (S.faults source.new) }

@@ -2,6 +2,7 @@
 ghost use Rattle.std.specs.Prelude.{◌≡◌, ℕ, ◌+◌, ◌*◌, ◌/◌, ◌%◌, ◌≤◌, ◌↔◌, List, length, take, slice_index, nat_eq};
 ghost use Rattle.std.specs.Cmp.Lexicographic.{pointwise, nat_list_eq_equiv};
 ghost use Rattle.std.specs.Cmp.{partial_equiv_from_equiv};
+ghost use Rattle.std.specs.Net.Addr.{ipv6_segments, segments_of};
 ghost use Rattle.wire_base.specs.Bytes.{bytes_between, be16_at};
 ghost use Rattle.ether_link.specs.Form.{Reads, header_len};
 ghost use Rattle.ether_ip.specs.Version.{ip_version};
@@ -11,6 +12,7 @@ use crate::err::ipv6::{HeaderError, HeaderSliceError};
 use ether_link::err::{Layer, LenError};
 use ether_link::{IpNumber, LenSource};
 use std::marker::Model;
+use std::net::Ipv6Addr;
 use wire_base::number::{read_array, read_be16, read_be32};
 
 /// The fields of an IPv6 header.
@@ -124,10 +126,22 @@ impl<'a> Ipv6HeaderSlice<'a> {
         read_array(self.slice, 8)
     }
 
+    pub fn source_addr(&self) -> Ipv6Addr
+        ensures value { ipv6_segments result ≡ segments_of (bytes_between 8 24 self.now) }
+    {
+        Ipv6Addr::from_octets(self.source())
+    }
+
     pub fn destination(&self) -> [u8; 16]
         ensures value { result ≡ bytes_between 24 40 self.now }
     {
         read_array(self.slice, 24)
+    }
+
+    pub fn destination_addr(&self) -> Ipv6Addr
+        ensures value { ipv6_segments result ≡ segments_of (bytes_between 24 40 self.now) }
+    {
+        Ipv6Addr::from_octets(self.destination())
     }
 
     pub fn to_header(&self) -> Ipv6Header

@@ -2,9 +2,10 @@
 
 use crate::{
     IpAuthHeaderSlice, IpFragId, IpFragVersionSpecId, Ipv4ExtensionsSlice, Ipv6ExtensionSlice,
-    Ipv6FragmentHeaderSlice, Ipv6RawExtHeaderSlice,
+    Ipv6FragmentHeaderSlice, Ipv6RawExtHeaderSlice, MAX_IP_DEFRAG_LEN, MAX_IP_DEFRAG_LEN_U16,
 };
 use arrayvec::ArrayVec;
+use ether_link::err::Layer;
 use ether_link::{IpNumber, VlanId};
 use std::test::Fail;
 
@@ -129,4 +130,10 @@ fn fragments_of_two_channels_differ(rt: HostRuntime) -> Result<(), Fail> {
     assert!(rt; id_of(1u8).clone()? == id_of(1));
     assert!(rt; id_of(1u8) != id_of(2));
     Ok(())
+}
+
+/// The length fields of both versions have 16 bits.
+#[test]
+fn a_packet_has_at_most_65535_bytes(rt: HostRuntime) {
+    assert_eq!(rt; (MAX_IP_DEFRAG_LEN, MAX_IP_DEFRAG_LEN_U16), (65535, 65535));
 }

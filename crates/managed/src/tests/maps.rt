@@ -17,6 +17,22 @@ const FULL: Places = [
     Some((b'd', 4)),
 ];
 
+const LATER: Places = [Some((b'b', 2)), Some((b'c', 3)), Some((b'd', 4)), None];
+
+const RAISED: Places = [
+    Some((b'a', 2)),
+    Some((b'b', 3)),
+    Some((b'c', 4)),
+    Some((b'd', 5)),
+];
+
+const SECOND: Places = [
+    Some((b'a', 1)),
+    Some((b'b', 20)),
+    Some((b'c', 3)),
+    Some((b'd', 4)),
+];
+
 // What each key is found as, before and by `get_mut`.
 const FOUND: [(Places, u8, Option<u32>); 9] = [
     (FULL, b'a', Some(1)),
@@ -75,6 +91,14 @@ const INSERTED: [(
     ),
 ];
 
+// The places of a borrowed map.
+fn places_in<'b>(map: &'b ManagedMap<'_, u8, u32>) -> &'b [Option<(u8, u32)>] {
+    match map {
+        ManagedMap::Borrowed(places) => places,
+        ManagedMap::Owned(_) => &[],
+    }
+}
+
 #[test]
 fn each_key_is_found(rt: HostRuntime) -> Result<(), Fail> {
     for (places, key, want) in FOUND {
@@ -94,8 +118,13 @@ fn an_insert_moves_the_pairs_behind_it(rt: HostRuntime) -> Result<(), Fail> {
         let mut map = ManagedMap::Borrowed(&mut places);
         assert!(rt; map.is_sorted());
         assert_eq!(rt; map.insert(key, value), want, "key {key}");
-        assert_eq!(rt; places, left, "key {key}");
+        assert_eq!(rt; places_in(&map), left.as_slice(), "key {key}");
     }
+    Ok(())
+}
+
+#[test]
+fn no_places_take_no_pair(rt: HostRuntime) -> Result<(), Fail> {
     let mut nowhere = ManagedMap::Borrowed(&mut []);
     assert!(rt; nowhere.is_sorted());
     assert_eq!(rt; nowhere.insert(b'a', 1u32), Err(InsertError::Full(b'a', 1)));
@@ -112,10 +141,7 @@ fn a_removal_closes_the_gap(rt: HostRuntime) -> Result<(), Fail> {
     assert_eq!(rt; map.remove(&b'q'), None);
     assert_eq!(rt; map.len(), 3);
     assert!(rt; !map.is_empty());
-    assert_eq!(rt;
-        places,
-        [Some((b'b', 2)), Some((b'c', 3)), Some((b'd', 4)), None]
-    );
+    assert_eq!(rt; places_in(&map), LATER.as_slice());
     Ok(())
 }
 
@@ -126,7 +152,7 @@ fn a_cleared_map_is_empty(rt: HostRuntime) -> Result<(), Fail> {
     map.clear();
     assert!(rt; map.is_empty());
     assert_eq!(rt; map.len(), 0);
-    assert_eq!(rt; places, NONE);
+    assert_eq!(rt; places_in(&map), NONE.as_slice());
     Ok(())
 }
 
@@ -156,23 +182,13 @@ fn a_walk_that_writes_keeps_each_key(rt: HostRuntime) -> Result<(), Fail> {
     let mut places = FULL;
     let mut map = ManagedMap::Borrowed(&mut places);
     assert!(rt; map.is_sorted());
-    let mut pairs = map.iter_mut();
-    assert_eq!(rt; pairs.size_hint(), (0, Some(4)));
-    for (_, value) in &mut pairs {
+    assert_eq!(rt; map.iter_mut().size_hint(), (0, Some(4)));
+    assert!(rt; map.is_sorted());
+    for (_, value) in map.iter_mut() {
         *value = value.saturating_add(1);
     }
-    assert_eq!(rt; pairs.size_hint(), (0, Some(0)));
-    drop(pairs);
     assert!(rt; map.is_sorted());
-    assert_eq!(rt;
-        places,
-        [
-            Some((b'a', 2)),
-            Some((b'b', 3)),
-            Some((b'c', 4)),
-            Some((b'd', 5))
-        ]
-    );
+    assert_eq!(rt; places_in(&map), RAISED.as_slice());
     Ok(())
 }
 
@@ -181,46 +197,40 @@ fn a_walk_that_is_left_early_keeps_each_pair(rt: HostRuntime) -> Result<(), Fail
     let mut places = FULL;
     let mut map = ManagedMap::Borrowed(&mut places);
     assert!(rt; map.is_sorted());
-    let mut pairs = map.iter_mut();
-    if let Some((_, value)) = pairs.next() {
-        *value = 10;
+    for (key, value) in map.iter_mut() {
+        if *key == b'b' {
+            *value = 20;
+            break;
+        }
     }
-    drop(pairs);
     assert!(rt; map.is_sorted());
-    assert_eq!(rt;
-        places,
-        [
-            Some((b'a', 10)),
-            Some((b'b', 2)),
-            Some((b'c', 3)),
-            Some((b'd', 4))
-        ]
-    );
+    assert_eq!(rt; places_in(&map), SECOND.as_slice());
     Ok(())
+}
+
+// Whether closures write the values of `a` = 1 and `c` = 3, and nothing else.
+fn closures_write(map: &mut ManagedMap<u8, u32>) -> bool {
+    if !map.is_sorted() {
+        return false;
+    }
+    let found = set_count(map, &b'c', 30);
+    let absent = set_count(map, &b'b', 20);
+    let one = map.get(&b'a').copied() == Some(1) && map.get(&b'c').copied() == Some(30);
+    set_counts(map, 7);
+    let all = map.get(&b'a').copied() == Some(7) && map.get(&b'b').is_none();
+    found && !absent && one && all && count_after_reset(map, &b'c') == Some(0)
 }
 
 #[test]
 fn closures_write_values_alone(rt: HostRuntime) -> Result<(), Fail> {
     let mut places = [Some((b'a', 1)), Some((b'c', 3)), None];
+    let mut borrowed = ManagedMap::Borrowed(&mut places);
+    assert!(rt; closures_write(&mut borrowed));
     let mut tree = BTreeMap::new(rt.alloc());
     tree.insert(b'a', 1)?;
     tree.insert(b'c', 3)?;
-    for map in [
-        ManagedMap::from(places.as_mut_slice()),
-        ManagedMap::from(tree),
-    ] {
-        let mut map = map;
-        assert!(rt; map.is_sorted());
-        assert!(rt; set_count(&mut map, &b'c', 30));
-        assert!(rt; !set_count(&mut map, &b'b', 20));
-        assert_eq!(rt; map.get(&b'a').copied(), Some(1));
-        assert_eq!(rt; map.get(&b'c').copied(), Some(30));
-        set_counts(&mut map, 7);
-        assert_eq!(rt; map.get(&b'a').copied(), Some(7));
-        assert_eq!(rt; map.get(&b'b').copied(), None);
-        assert_eq!(rt; count_after_reset(&mut map, &b'c'), Some(0));
-        assert_eq!(rt; map.len(), 2);
-    }
+    let mut owned = ManagedMap::Owned(tree);
+    assert!(rt; closures_write(&mut owned));
     Ok(())
 }
 

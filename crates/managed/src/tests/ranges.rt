@@ -84,18 +84,33 @@ fn forwards(alloc: Global, range: Range<'_, u8, u32>) -> Result<String, AllocErr
 // The same from the back, put in order.
 fn backwards(alloc: Global, range: Range<'_, u8, u32>) -> Result<String, AllocError> {
     let mut keys = Vec::new(alloc);
-    let mut left = range;
-    while let Some((key, _)) = left.next_back() {
+    for (key, _) in range.rev() {
         keys.push(*key)?;
     }
     let mut text = String::new(alloc);
-    while let Some(key) = keys.pop() {
-        text.push(key as char)?;
+    for key in keys.iter().rev() {
+        text.push(*key as char)?;
     }
     Ok(text)
 }
 
-fn pair_of(pair: Option<(&u8, &u32)>) -> Option<u8> {
+// Whether a range of a sorted map gives the keys, from both ends.
+fn gives(
+    alloc: Global,
+    map: &ManagedMap<u8, u32>,
+    from: Bound<&u8>,
+    to: Bound<&u8>,
+    want: &str,
+) -> Result<bool, AllocError> {
+    if !map.is_sorted() {
+        return Ok(false);
+    }
+    let front = forwards(alloc, map.range(from, to))?;
+    let back = backwards(alloc, map.range(from, to))?;
+    Ok(front.as_str() == want && back.as_str() == want)
+}
+
+fn key_of(pair: Option<(&u8, &u32)>) -> Option<u8> {
     pair.map(|(key, _)| *key)
 }
 
@@ -108,28 +123,60 @@ fn a_range_gives_the_keys_inside_its_bounds(rt: HostRuntime) -> Result<(), Fail>
         Some((b'd', 4)),
         None,
     ];
-    let borrowed = ManagedMap::from(places.as_mut_slice());
+    let map = ManagedMap::Borrowed(&mut places);
+    for (from, to, want) in HALF_OPEN {
+        assert!(rt;
+            gives(
+                rt.alloc(),
+                &map,
+                Bound::Included(&from),
+                Bound::Excluded(&to),
+                want
+            )?
+        );
+    }
+    for (from, to, want) in BOUNDED {
+        assert!(rt;
+            gives(
+                rt.alloc(),
+                &map,
+                by_reference(&from),
+                by_reference(&to),
+                want
+            )?
+        );
+    }
+    Ok(())
+}
+
+#[test]
+fn a_range_of_a_tree_gives_the_same(rt: HostRuntime) -> Result<(), Fail> {
     let mut tree = BTreeMap::new(rt.alloc());
     for (key, value) in [(b'd', 4), (b'b', 2), (b'c', 3), (b'a', 1)] {
         tree.insert(key, value)?;
     }
-    let owned = ManagedMap::from(tree);
-    assert!(rt; borrowed.is_sorted() && owned.is_sorted());
+    let map = ManagedMap::Owned(tree);
     for (from, to, want) in HALF_OPEN {
-        let (from, to) = (Bound::Included(&from), Bound::Excluded(&to));
-        for map in [&borrowed, &owned] {
-            assert!(rt; map.is_sorted());
-            assert_eq!(rt; forwards(rt.alloc(), map.range(from, to))?.as_str(), want);
-            assert_eq!(rt; backwards(rt.alloc(), map.range(from, to))?.as_str(), want);
-        }
+        assert!(rt;
+            gives(
+                rt.alloc(),
+                &map,
+                Bound::Included(&from),
+                Bound::Excluded(&to),
+                want
+            )?
+        );
     }
     for (from, to, want) in BOUNDED {
-        let (from, to) = (by_reference(&from), by_reference(&to));
-        for map in [&borrowed, &owned] {
-            assert!(rt; map.is_sorted());
-            assert_eq!(rt; forwards(rt.alloc(), map.range(from, to))?.as_str(), want);
-            assert_eq!(rt; backwards(rt.alloc(), map.range(from, to))?.as_str(), want);
-        }
+        assert!(rt;
+            gives(
+                rt.alloc(),
+                &map,
+                by_reference(&from),
+                by_reference(&to),
+                want
+            )?
+        );
     }
     Ok(())
 }
@@ -145,18 +192,35 @@ fn a_range_ends_where_its_ends_meet(rt: HostRuntime) -> Result<(), Fail> {
     let map = ManagedMap::Borrowed(&mut places);
     assert!(rt; map.is_sorted());
     let mut range = map.range(Bound::Included(&b'a'), Bound::Unbounded);
-    assert_eq!(rt; pair_of(range.next()), Some(b'a'));
-    assert_eq!(rt; pair_of(range.next_back()), Some(b'd'));
-    let mut copy = range.clone()?;
-    assert_eq!(rt;
-        format!(in rt.alloc(); "{range:?}")?.as_str(),
-        "[(98, 2), (99, 3)]"
-    );
-    assert_eq!(rt; pair_of(range.next_back()), Some(b'c'));
-    assert_eq!(rt; pair_of(range.next()), Some(b'b'));
-    assert_eq!(rt; pair_of(range.next_back()), None);
-    assert_eq!(rt; pair_of(range.next()), None);
-    assert_eq!(rt; pair_of(copy.next()), Some(b'b'));
+    assert_eq!(rt; key_of(range.next()), Some(b'a'));
+    assert_eq!(rt; key_of(range.next_back()), Some(b'd'));
+    assert_eq!(rt; key_of(range.next_back()), Some(b'c'));
+    assert_eq!(rt; key_of(range.next()), Some(b'b'));
+    assert_eq!(rt; key_of(range.next_back()), None);
+    assert_eq!(rt; key_of(range.next()), None);
+    Ok(())
+}
+
+// What a range prints.
+fn printed(alloc: Global, range: &Range<'_, u8, u32>) -> Result<String, AllocError> {
+    format!(in alloc; "{range:?}")
+}
+
+#[test]
+fn a_copy_of_a_range_is_left_where_it_was(rt: HostRuntime) -> Result<(), Fail> {
+    let mut places = [
+        Some((b'a', 1u32)),
+        Some((b'b', 2)),
+        Some((b'c', 3)),
+        Some((b'd', 4)),
+    ];
+    let map = ManagedMap::Borrowed(&mut places);
+    assert!(rt; map.is_sorted());
+    let range = map.range(Bound::Included(&b'b'), Bound::Excluded(&b'd'));
+    let copy = range.clone()?;
+    assert_eq!(rt; forwards(rt.alloc(), range)?.as_str(), "bc");
+    assert_eq!(rt; printed(rt.alloc(), &copy)?.as_str(), "[(98, 2), (99, 3)]");
+    assert_eq!(rt; forwards(rt.alloc(), copy)?.as_str(), "bc");
     Ok(())
 }
 

@@ -1,0 +1,23 @@
+-- What a call of an emitter gives.
+use Rattle.std.specs.Prelude.{◌≡◌, ℕ, ◌+◌, List, length, Result, OnOk}
+use Rattle.std.specs.Result.{IsErrOf}
+use Rattle.net_wire.specs.declared.error.EmitError.{EmitError}
+use Rattle.net_wire.specs.declared.error.EmitError.TheVariants.{Unresolved, NoMemory}
+use Rattle.net_wire.specs.declared.ip.IpRepr.{IpRepr}
+use Rattle.net_wire.specs.declared.udp.UdpRepr.{UdpRepr}
+
+-- A message of a query: the place of the query's slot, the place in the list of servers or groups that it goes to, the
+-- headers that it is sent behind, and its bytes.
+pub record Outgoing : Type 0 where
+  pub slot : ℕ
+  pub place : ℕ
+  pub ip : IpRepr
+  pub udp : UdpRepr
+  pub payload : List ℕ
+
+-- An emitter that is `old` before the call and `new` after it answers a message; `took` and `refused` are its meanings.
+pub record Emitted {E : Type 0} (took refused : E → E → Outgoing → Type 0) (outgoing : Outgoing)
+    (result : Result (Unit {0}) EmitError) (old new : E) : Type 0 where
+  pub ok : OnOk result (took old new outgoing)
+  pub unresolved : IsErrOf result Unresolved → refused old new outgoing
+  pub memory : IsErrOf result NoMemory → new ≡ old

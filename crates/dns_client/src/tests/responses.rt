@@ -1,0 +1,216 @@
+//! Responses: from whom, to what, and with which records.
+use super::{Outcome, hear, outcome_of, ready_network, server};
+use crate::{QueryHandle, Socket};
+use arrayvec::ArrayVec;
+use managed::ManagedSlice;
+use net_wire::dns::DnsType;
+use net_wire::{Instant, IpAddress};
+use std::alloc::Global;
+use std::test::Fail;
+
+type Message = ArrayVec<u8, 512>;
+
+/// The header of a response with an rcode and a number of answers, and the question `a.example` of type A.
+fn response(rcode: u8, answers: u8) -> Message {
+    let mut message = Message::new();
+    let header = [0, 7, 0x81, 0x80 | rcode, 0, 1, 0, answers, 0, 0, 0, 0];
+    let _ = message.try_extend_from_slice(&header);
+    let _ = message.try_extend_from_slice(b"\x01a\x07example\x00\x00\x01\x00\x01");
+    message
+}
+
+/// Adds a record of the name of the question.
+fn add(message: &mut Message, number: u8, content: &[u8]) {
+    add_named(message, b"\xc0\x0c", number, content);
+}
+
+fn add_named(message: &mut Message, owner: &[u8], number: u8, content: &[u8]) {
+    if content.len() < 256 {
+        let _ = message.try_extend_from_slice(owner);
+        let _ = message.try_extend_from_slice(&[
+            0,
+            number,
+            0,
+            1,
+            0,
+            0,
+            0,
+            60,
+            0,
+            content.len() as u8,
+        ]);
+        let _ = message.try_extend_from_slice(content);
+    }
+}
+
+/// A client of two servers that sent its query to the first one.
+fn asking(alloc: Global) -> Result<(Socket<'static>, QueryHandle), Fail> {
+    let mut socket = Socket::new(
+        &[server(1), server(2)],
+        ManagedSlice::Owned(Vec::new(alloc)),
+    );
+    let handle = socket.start_query("a.example", DnsType::A, 7, 0)?;
+    let _ = socket.dispatch(Instant::from_secs(0), &mut ready_network());
+    Ok((socket, handle))
+}
+
+#[test]
+fn only_the_server_asked_last_answers(rt: HostRuntime) -> Result<(), Fail> {
+    let mut good = response(0, 1);
+    add(&mut good, 1, &[192, 0, 2, 9]);
+    let (mut socket, handle) = asking(rt.alloc())?;
+    hear(&mut socket, server(2), 53, 1025, &good);
+    assert_eq!(rt; outcome_of(&mut socket, handle), Outcome::Pending);
+    hear(&mut socket, server(1), 53, 1026, &good);
+    assert_eq!(rt; outcome_of(&mut socket, handle), Outcome::Pending);
+    hear(&mut socket, server(1), 5353, 1025, &good);
+    assert_eq!(rt; outcome_of(&mut socket, handle), Outcome::Pending);
+    hear(&mut socket, server(1), 53, 1025, &good);
+    assert_eq!(rt;
+        outcome_of(&mut socket, handle),
+        Outcome::Answered(server(9), 1)
+    );
+
+    let gone = response(3, 0);
+    let (mut socket, handle) = asking(rt.alloc())?;
+    hear(&mut socket, server(2), 53, 1025, &gone);
+    assert_eq!(rt; outcome_of(&mut socket, handle), Outcome::Pending);
+    hear(&mut socket, server(1), 53, 1025, &gone);
+    assert_eq!(rt; outcome_of(&mut socket, handle), Outcome::Failed);
+    Ok(())
+}
+
+#[test]
+fn nothing_is_answered_before_it_is_asked(rt: HostRuntime) -> Result<(), Fail> {
+    let mut good = response(0, 1);
+    add(&mut good, 1, &[192, 0, 2, 9]);
+    let alloc = rt.alloc();
+    let mut socket = Socket::new(&[server(1)], ManagedSlice::Owned(Vec::new(alloc)));
+    let handle = socket.start_query("a.example", DnsType::A, 7, 0)?;
+    hear(&mut socket, server(1), 53, 1025, &good);
+    assert_eq!(rt; outcome_of(&mut socket, handle), Outcome::Pending);
+    Ok(())
+}
+
+#[test]
+fn addresses_are_of_the_asked_type(rt: HostRuntime) -> Result<(), Fail> {
+    let other = [0x20, 0x01, 0x0d, 0xb8, 0, 0, 0, 0, 0, 0, 0, 0, 0, 0, 0, 9];
+    let mut both = response(0, 2);
+    add(&mut both, 28, &other);
+    add(&mut both, 1, &[192, 0, 2, 9]);
+    let (mut socket, handle) = asking(rt.alloc())?;
+    hear(&mut socket, server(1), 53, 1025, &both);
+    assert_eq!(rt;
+        outcome_of(&mut socket, handle),
+        Outcome::Answered(server(9), 1)
+    );
+    let mut one = response(0, 1);
+    add(&mut one, 28, &other);
+    let (mut socket, handle) = asking(rt.alloc())?;
+    hear(&mut socket, server(1), 53, 1025, &one);
+    assert_eq!(rt; outcome_of(&mut socket, handle), Outcome::Failed);
+    let mut five = response(0, 5);
+    for last in [9, 10, 11, 12, 13] {
+        add(&mut five, 1, &[192, 0, 2, last]);
+    }
+    let (mut socket, handle) = asking(rt.alloc())?;
+    hear(&mut socket, server(1), 53, 1025, &five);
+    assert_eq!(rt;
+        outcome_of(&mut socket, handle),
+        Outcome::Answered(server(9), 4)
+    );
+    Ok(())
+}
+
+/// Three aliases, an address of another name between them, an address at the end, and an OPT record (RFC 6891) in the
+/// additional section.
+fn aliases() -> Message {
+    let mut message = response(0, 5);
+    add(&mut message, 5, b"\x01b\xc0\x0e");
+    add_named(&mut message, b"\x01x\x00", 1, &[192, 0, 2, 8]);
+    add_named(&mut message, b"\x01b\xc0\x0e", 5, b"\x01c\xc0\x0e");
+    add_named(&mut message, b"\x01c\xc0\x0e", 5, b"\x01d\xc0\x0e");
+    add_named(&mut message, b"\x01d\xc0\x0e", 1, &[192, 0, 2, 9]);
+    let _ = message.try_extend_from_slice(&[0, 0, 41, 0x04, 0xd0, 0, 0, 0, 0, 0, 0]);
+    message
+}
+
+#[test]
+fn aliases_are_followed(rt: HostRuntime) -> Result<(), Fail> {
+    let (mut socket, handle) = asking(rt.alloc())?;
+    hear(&mut socket, server(1), 53, 1025, &aliases());
+    assert_eq!(rt;
+        outcome_of(&mut socket, handle),
+        Outcome::Answered(server(9), 1)
+    );
+    Ok(())
+}
+
+#[test]
+fn a_damaged_response_leaves_the_query(rt: HostRuntime) -> Result<(), Fail> {
+    let mut good = response(0, 2);
+    add(&mut good, 5, b"\x01b\xc0\x0e");
+    add_named(&mut good, b"\x01b\xc0\x0e", 1, &[192, 0, 2, 9]);
+    let (mut socket, handle) = asking(rt.alloc())?;
+    for len in 0..good.len() {
+        hear(&mut socket, server(1), 53, 1025, &good.as_slice()[..len]);
+    }
+    assert_eq!(rt; outcome_of(&mut socket, handle), Outcome::Pending);
+    // each byte of the question's name, and the counts of questions and of answers
+    for (place, byte) in [
+        (12, 0xc0),
+        (13, 0xc0),
+        (14, 0xc0),
+        (15, 0xc0),
+        (16, 0xc0),
+        (17, 0xc0),
+        (18, 0xc0),
+        (19, 0xc0),
+        (20, 0xc0),
+        (21, 0xc0),
+        (22, 0xc0),
+        (5, 2),
+        (7, 3),
+        (2, 0x01),
+        (2, 0x89),
+        (1, 8),
+    ] {
+        let mut bad = good.clone()?;
+        if place < bad.len() {
+            bad[place] = byte;
+        }
+        hear(&mut socket, server(1), 53, 1025, &bad);
+        assert_eq!(rt;
+            outcome_of(&mut socket, handle),
+            Outcome::Pending,
+            "{place} {byte}"
+        );
+    }
+    hear(&mut socket, server(1), 53, 1025, &good);
+    assert_eq!(rt;
+        outcome_of(&mut socket, handle),
+        Outcome::Answered(server(9), 1)
+    );
+    Ok(())
+}
+
+#[test]
+fn an_mdns_answer_comes_from_port_5353_of_any_station(rt: HostRuntime) -> Result<(), Fail> {
+    let mut message = Message::new();
+    let _ = message.try_extend_from_slice(&[0, 7, 0x84, 0, 0, 1, 0, 1, 0, 0, 0, 0]);
+    let _ = message.try_extend_from_slice(b"\x07printer\x05local\x00\x00\x01\x00\x01");
+    add(&mut message, 1, &[192, 0, 2, 77]);
+    let alloc = rt.alloc();
+    let mut socket = Socket::new(&[server(1)], ManagedSlice::Owned(Vec::new(alloc)));
+    let handle = socket.start_query("printer.local", DnsType::A, 7, 0)?;
+    let _ = socket.dispatch(Instant::from_secs(0), &mut ready_network());
+    hear(&mut socket, server(1), 53, 1025, &message);
+    assert_eq!(rt; outcome_of(&mut socket, handle), Outcome::Pending);
+    let station: IpAddress = server(200);
+    hear(&mut socket, station, 5353, 1025, &message);
+    assert_eq!(rt;
+        outcome_of(&mut socket, handle),
+        Outcome::Answered(server(77), 1)
+    );
+    Ok(())
+}
