@@ -1,7 +1,7 @@
 -- What one part more leaves of the parts that were gathered.
-use Rattle.std.proofs.Common.{◌≡◌, ℕ, ◌+◌, ◌<◌, ◌≤◌, Bool, true, false, List, [], ◌∷◌, ◌++◌, length, Option, Some, None, refl, sym, ap, ◌∙◌, length-append, arith}
+use Rattle.std.proofs.Common.{◌≡◌, ℕ, ◌+◌, ◌<◌, ◌≤◌, Bool, true, false, List, [], ◌∷◌, ◌++◌, length, take, get_or, Option, Some, None, refl, sym, ap, ◌∙◌, length-append, arith}
 use Rattle.std.specs.Prelude.{map, if◌then◌else◌}
-use Rattle.std.proofs.lemmas.List.{map-append, length-map}
+use Rattle.std.proofs.lemmas.List.{map-append, length-map, length-take, take_more}
 use Rattle.ether_link.specs.Places.{header_at}
 use Rattle.ether_link.specs.declared.layout.PartKind.{PartKind}
 use Rattle.ether_link.specs.declared.layout.PartKind.TheVariants as kind
@@ -10,7 +10,7 @@ use Rattle.ether_ip.specs.Held.{with_header}
 use Rattle.ether_ip.specs.IpHeaders.{is_ipv4}
 use Rattle.ether_ip.specs.declared.ip.ext_places.ExtensionPlaces.{ExtensionPlaces}
 use Rattle.ether_lax.specs.Parts.{part_in, part_at}
-use Rattle.ether_lax.specs.LinkExts.{LinkExtPart, ext_in}
+use Rattle.ether_lax.specs.LinkExts.{LinkExtPart, ext_in, header_of_ext}
 use Rattle.ether_lax.specs.Found.{Parts, with_part, parts_behind}
 use Rattle.ether_lax.specs.Steps.{MayStandBehind, count_behind, IsBetween}
 use Rattle.ether_lax.specs.Walks.{HasRoom, IsInside}
@@ -24,6 +24,16 @@ exts_more exts ext = map-append ext_in exts (ext ∷ [])
 
 pub exts_len : (exts : List LaxLinkExtSlice) → length (map ext_in exts) ≡ length exts
 exts_len exts = length-map exts ext_in
+
+pub headers_more : (exts : List LaxLinkExtSlice) (i : ℕ) (ext : LaxLinkExtSlice) → i < length exts → ext ≡ get_or exts i ext
+    → map header_of_ext (map ext_in (take (i + 1) exts)) ≡ map header_of_ext (map ext_in (take i exts)) ++ header_of_ext (ext_in ext) ∷ []
+headers_more exts i ext there is =
+    ap (λ list. map header_of_ext (map ext_in list)) (take_more exts i ext there)
+    ∙ ap (λ item. map header_of_ext (map ext_in (take i exts ++ item ∷ []))) (sym is)
+    ∙ (rw (map-append ext_in (take i exts) (ext ∷ []), map-append header_of_ext (map ext_in (take i exts)) (ext_in ext ∷ [])) refl)
+
+pub headers_len : (exts : List LaxLinkExtSlice) (i : ℕ) → length (map header_of_ext (map ext_in (take i exts))) ≤ i
+headers_len exts i = rw (length-map (map ext_in (take i exts)) header_of_ext, length-map (take i exts) ext_in) (omega (arith, length-take i exts))
 
 pub parts_behind-one_more : (frame : List ℕ) (parts : Parts) (places : List Place) (place : Place)
     → parts_behind frame parts (places ++ place ∷ []) ≡ with_part frame place (part_at frame place) (parts_behind frame parts places)

@@ -1,4 +1,5 @@
 pub mod FoundLemmas
+pub mod IpLemmas
 pub mod MapLemmas
 pub mod ReadLemmas
 pub mod StepLemmas

@@ -1,5 +1,5 @@
 -- The parts of a packet, gathered one after another.
-use Rattle.std.specs.Prelude.{ℕ, ◌==◌, Bool, false, if◌then◌else◌, List, [], ◌∷◌, ◌++◌, map, slice_index, slice_range, Option, Some, None}
+use Rattle.std.specs.Prelude.{ℕ, ◌==◌, Bool, false, if◌then◌else◌, List, [], ◌∷◌, ◌++◌, map, slice_index, slice_range, Option, Some, None, option_map}
 use Rattle.ether_link.specs.Places.{header_at}
 use Rattle.ether_link.specs.declared.len_source.LenSource.{LenSource}
 use Rattle.ether_link.specs.declared.len_source.LenSource.TheVariants.{Slice}
@@ -12,6 +12,7 @@ use Rattle.ether_ip.specs.declared.ip.exts.Ipv6ExtensionSlice.{Ipv6ExtensionSlic
 use Rattle.ether_ip.specs.declared.transport.TransportSlice.{TransportSlice}
 use Rattle.ether_lax.specs.Parts.{part_at, window_at, source_at, is_incomplete}
 use Rattle.ether_lax.specs.LinkExts.{LinkExtPart, TagPart, ext_in, macsec_part, source_behind, is_cut}
+use Rattle.ether_lax.specs.Payloads.{Carried, carried_in, carried_by}
 use Rattle.ether_lax.specs.declared.step.Part.{Part}
 use Rattle.ether_lax.specs.declared.step.Part.TheVariants.{Ethernet2, LinuxSll, Vlan, Macsec, Arp, Ipv4, Ipv6, Extension, Transport}
 use Rattle.ether_lax.specs.declared.found.Found.{Found}
@@ -19,12 +20,13 @@ use Rattle.ether_lax.specs.declared.found.FoundIp.{FoundIp}
 use Rattle.ether_lax.specs.declared.found.IpHeader.{IpHeader}
 use Rattle.ether_lax.specs.declared.found.IpHeader.TheVariants as version
 
--- the link extensions, the source of the windows behind them, and whether the last one lacks bytes; an ARP packet; an IP header and how far its extension headers reach, and
+-- the link extensions, the source of the windows behind them, and whether the last one lacks bytes and what it carries; an ARP packet; an IP header and how far its extension headers reach, and
 -- these in their places; the part of the transport layer; and the last part of all
 pub record Parts : Type 0 where
   pub exts : List LinkExtPart
   pub link_source : LenSource
   pub link_incomplete : Bool
+  pub carried : Option Carried
   pub arp : Option (List ℕ)
   pub ip : Option FoundIp
   pub held : ExtensionPlaces
@@ -37,6 +39,7 @@ found_in found = record {
   exts = map ext_in found.link_exts.items;
   link_source = found.link_source;
   link_incomplete = found.link_incomplete;
+  carried = option_map carried_in found.carried;
   arp = found.arp;
   ip = found.ip;
   held = found.held;
@@ -49,6 +52,7 @@ no_parts = record {
   exts = [];
   link_source = Slice;
   link_incomplete = false;
+  carried = None;
   arp = None;
   ip = None;
   held = no_extensions;
@@ -62,6 +66,7 @@ with_ext ext parts = record parts {
   exts = parts.exts ++ ext ∷ [];
   link_source = source_behind parts.link_source ext;
   link_incomplete = is_cut ext;
+  carried = Some (carried_by (source_behind parts.link_source ext) ext);
 }
 
 -- an IP header at a place: what it says is behind it, and its window

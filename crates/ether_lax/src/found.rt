@@ -2,7 +2,7 @@
 ghost use Rattle.std.specs.Prelude.{◌≡◌, ◌<◌, ◌≤◌, ◌&&◌, length};
 ghost use Rattle.ether_lax.specs.Found.{extended};
 
-use crate::{LaxLinkExtSlice, LaxMacsecSlice, NextLayer, Part};
+use crate::{LaxLinkExtSlice, LaxMacsecSlice, LaxPayloadSlice, NextLayer, Part};
 use arrayvec::ArrayVec;
 use ether_ip::{
     ExtensionPlaces, Ipv4HeaderSlice, Ipv6ExtensionSlice, Ipv6HeaderSlice, TransportSlice,
@@ -17,6 +17,8 @@ pub(crate) struct Found<'a> {
     pub(crate) link_source: LenSource,
     /// The last link extension has more bytes than are there.
     pub(crate) link_incomplete: bool,
+    /// What the last link extension carries.
+    pub(crate) carried: Option<LaxPayloadSlice<'a>>,
     pub(crate) arp: Option<ArpPacketSlice<'a>>,
     pub(crate) ip: Option<FoundIp<'a>>,
     pub(crate) held: ExtensionPlaces<'a>,
@@ -59,6 +61,7 @@ impl<'a> Found<'a> {
             link_exts: ArrayVec::new(),
             link_source: LenSource::Slice,
             link_incomplete: false,
+            carried: None,
             arp: None,
             ip: None,
             held: ExtensionPlaces::new(),
@@ -145,6 +148,7 @@ impl<'a> Found<'a> {
                 self.link_incomplete = macsec.is_cut();
             }
         }
+        self.carried = Some(ext.carried(self.link_source));
         self.link_exts.push(ext);
     }
 }

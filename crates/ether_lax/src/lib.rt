@@ -4,6 +4,7 @@
 
 pub mod ether_payload;
 mod found;
+mod headers;
 pub mod ip;
 pub mod ipv4;
 pub mod ipv6;
@@ -11,6 +12,9 @@ pub mod link_ext;
 pub mod macsec;
 pub mod net;
 mod nets;
+pub mod note;
+pub mod packet_headers;
+pub mod payload;
 mod read_part;
 mod sliced;
 pub mod sliced_packet;
@@ -25,5 +29,8 @@ pub use ipv6::LaxIpv6Slice;
 pub use link_ext::LaxLinkExtSlice;
 pub use macsec::{LaxMacsecPayloadSlice, LaxMacsecSlice};
 pub use net::LaxNetSlice;
+pub use note::{FrameNote, NetKind, TransportKind, note_of};
+pub use packet_headers::LaxPacketHeaders;
+pub use payload::LaxPayloadSlice;
 pub use sliced_packet::LaxSlicedPacket;
 pub use step::{NextLayer, Part, next_layer};

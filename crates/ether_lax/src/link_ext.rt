@@ -1,8 +1,8 @@
 //! Link extensions: the parts between the header of a frame and what it carries.
 ghost use Rattle.std.specs.Prelude.{◌≡◌, option_map};
 
-use crate::{LaxEtherPayloadSlice, LaxMacsecSlice};
-use ether_link::{LinkExtHeader, SingleVlanSlice};
+use crate::{LaxEtherPayloadSlice, LaxMacsecPayloadSlice, LaxMacsecSlice, LaxPayloadSlice};
+use ether_link::{LenSource, LinkExtHeader, SingleVlanSlice};
 
 /// A tag or a security tag, with what it carries.
 #[derive(Clone, Debug, Drop, PartialEq, Eq)]
@@ -49,6 +49,45 @@ impl<'a> LaxLinkExtSlice<'a> {
                 })
             }
             LaxLinkExtSlice::Macsec(macsec) => macsec.ether_payload(),
+        }
+    }
+}
+
+impl<'a> LaxLinkExtSlice<'a> {
+    ghost use Rattle.ether_lax.specs.LinkExts.{ext_in};
+    ghost use Rattle.ether_lax.specs.Payloads.{carried_in, carried_by};
+
+    /// What it carries, in a window whose length is from a source.
+    pub(crate) fn carried(&self, len_source: LenSource) -> LaxPayloadSlice<'a>
+        ensures { carried_in result ≡ carried_by len_source (ext_in self.now) }
+    {
+        match self {
+            LaxLinkExtSlice::Vlan(tag) => {
+                let payload = tag.payload();
+                LaxPayloadSlice::Ether(LaxEtherPayloadSlice {
+                    incomplete: false,
+                    ether_type: payload.ether_type,
+                    len_source,
+                    payload: payload.payload,
+                })
+            }
+            LaxLinkExtSlice::Macsec(macsec) => match &macsec.payload {
+                LaxMacsecPayloadSlice::Unmodified(payload) => {
+                    LaxPayloadSlice::Ether(LaxEtherPayloadSlice {
+                        incomplete: payload.incomplete,
+                        ether_type: payload.ether_type,
+                        len_source,
+                        payload: payload.payload,
+                    })
+                }
+                LaxMacsecPayloadSlice::Modified {
+                    incomplete,
+                    payload,
+                } => LaxPayloadSlice::MacsecModified {
+                    payload,
+                    incomplete: *incomplete,
+                },
+            },
         }
     }
 }

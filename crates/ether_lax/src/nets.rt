@@ -7,8 +7,7 @@ ghost use Rattle.ether_lax.specs.Walks.{IsInside};
 use crate::found::{FoundIp, IpHeader};
 use crate::{LaxIpSlice, LaxIpv4Slice, LaxIpv6Slice, LaxNetSlice};
 use ether_ip::{
-    IpAuthHeaderSlice, Ipv4ExtensionsSlice, Ipv6ExtensionsSlice, Ipv6HeaderSlice,
-    LaxIpPayloadSlice,
+    IpAuthHeaderSlice, Ipv4ExtensionsSlice, Ipv6ExtensionsSlice, Ipv6HeaderSlice, LaxIpPayloadSlice,
 };
 use ether_link::ArpPacketSlice;
 
@@ -69,7 +68,7 @@ pub(crate) fn ip_by<'a>(
 }
 
 /// What is behind the headers of an IP packet.
-fn payload_at<'a>(frame: &'a [u8], ip: &FoundIp<'a>) -> LaxIpPayloadSlice<'a>
+pub(crate) fn payload_at<'a>(frame: &'a [u8], ip: &FoundIp<'a>) -> LaxIpPayloadSlice<'a>
     requires { IsInside (length frame.now) (length frame.now) (Some ip.now) }
     ensures { payload_of_ip result ≡ payload_at frame.now ip.now }
 {

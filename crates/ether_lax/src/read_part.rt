@@ -139,7 +139,10 @@ fn read_tcp(bytes: &[u8]) -> Result<(usize, Part<'_>), SliceError>
         × (read.1 ≡ part_of kind.Tcp bytes.now)) }
 {
     match TcpSlice::from_slice(bytes) {
-        Ok(part) => Ok((part.header_len(), Part::Transport(TransportSlice::Tcp(part)))),
+        Ok(part) => Ok((
+            part.header_len(),
+            Part::Transport(TransportSlice::Tcp(part)),
+        )),
         Err(TcpError::Len(error)) => Err(SliceError::Len(error)),
         Err(TcpError::Content(error)) => Err(SliceError::Tcp(error)),
     }
@@ -153,7 +156,10 @@ fn read_icmpv4(bytes: &[u8]) -> Result<(usize, Part<'_>), SliceError>
         × (read.1 ≡ part_of kind.Icmpv4 bytes.now)) }
 {
     match Icmpv4Slice::from_slice(bytes) {
-        Ok(part) => Ok((part.header_len(), Part::Transport(TransportSlice::Icmpv4(part)))),
+        Ok(part) => Ok((
+            part.header_len(),
+            Part::Transport(TransportSlice::Icmpv4(part)),
+        )),
         Err(error) => Err(SliceError::Len(error)),
     }
 }

@@ -15,9 +15,7 @@ use ether_ip::err::ip::LaxHeaderSliceError;
 use ether_ip::err::packet::SliceError;
 use ether_ip::{TransportSlice, ip_header_len};
 use ether_link::err::{Layer, LenError};
-use ether_link::{
-    EtherPayloadSlice, EtherType, Ethernet2Slice, LenSource, LinkSlice, PartKind,
-};
+use ether_link::{EtherPayloadSlice, EtherType, Ethernet2Slice, LenSource, LinkSlice, PartKind};
 
 /// A packet cut into slices: every part that is there, and what stopped the dissection.
 #[derive(Clone, Debug, Drop, PartialEq, Eq)]

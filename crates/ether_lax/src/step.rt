@@ -19,8 +19,7 @@ use ether_ip::{
 use ether_link::link::linux_sll::protocol_type;
 use ether_link::{
     ArpHardwareId, ArpPacketSlice, EtherType, Ethernet2Slice, IpNumber, LenSource,
-    LinuxSllProtocolType, LinuxSllSlice, MacsecHeaderSlice, PartKind, Place, SingleVlanSlice,
-    Turn,
+    LinuxSllProtocolType, LinuxSllSlice, MacsecHeaderSlice, PartKind, Place, SingleVlanSlice, Turn,
 };
 use wire_base::number::{read_be16, read_flag};
 
@@ -196,10 +195,7 @@ pub fn by_ether_type(link_exts: u8, number: u16) -> Option<Turn>
         EtherType::VLAN_TAGGED_FRAME
         | EtherType::PROVIDER_BRIDGING
         | EtherType::VLAN_DOUBLE_TAGGED_FRAME
-            if link_exts < 3 =>
-        {
-            PartKind::Vlan
-        }
+            if link_exts < 3 => { PartKind::Vlan }
         EtherType::MACSEC if link_exts < 3 => PartKind::Macsec,
         EtherType::ARP => PartKind::Arp,
         EtherType::IPV4 | EtherType::IPV6 => PartKind::Ip,

@@ -1,9 +1,10 @@
 //! What stopped a dissection, as callers are told.
 ghost use Rattle.std.specs.Prelude.{◌≡◌};
 ghost use Rattle.ether_lax.specs.Found.{found_in};
-ghost use Rattle.ether_lax.specs.Stops.{or_source, source_of_ip, sliced_source, placed, sliced_stop};
+ghost use Rattle.ether_lax.specs.Stops.{or_source, source_of_ip, sliced_source, placed, sliced_stop, ip_stop, chain_refusal, headers_source};
 
 use crate::found::{Found, FoundIp};
+use ether_ip::err::ipv6_exts::{HeaderError, HeaderSliceError};
 use ether_ip::err::packet::SliceError;
 use ether_link::err::{Layer, LenError};
 use ether_link::{LenSource, PartKind, Stop};
@@ -66,6 +67,21 @@ fn sliced_source(kind: PartKind, link: LenSource, ip: LenSource) -> LenSource
     }
 }
 
+/// The same, where the length of a link payload is from no field.
+pub(crate) fn headers_source(kind: PartKind, ip: LenSource) -> LenSource
+    ensures { result ≡ headers_source kind ip }
+{
+    match kind {
+        PartKind::Ethernet2
+        | PartKind::LinuxSll
+        | PartKind::Vlan
+        | PartKind::Macsec
+        | PartKind::Arp
+        | PartKind::Ip => LenSource::Slice,
+        _ => ip,
+    }
+}
+
 /// The refusal of a part that begins at a place.
 pub(crate) fn placed(source: LenSource, start: usize, refusal: SliceError) -> SliceError
     ensures { result ≡ placed source start refusal }
@@ -77,5 +93,44 @@ pub(crate) fn placed(source: LenSource, start: usize, refusal: SliceError) -> Sl
             ..error
         }),
         refusal => refusal,
+    }
+}
+
+/// What stopped a reader of IP headers, if it was one of them.
+pub(crate) fn ip_stop(
+    source: LenSource,
+    stop: Option<Stop<SliceError>>,
+) -> Option<(HeaderSliceError, Layer)>
+    ensures { result ≡ ip_stop source stop }
+{
+    match stop {
+        Some(stop) => match stop.kind {
+            PartKind::HopByHop
+            | PartKind::LateHopByHop
+            | PartKind::Route
+            | PartKind::Fragment
+            | PartKind::DestinationOptions
+            | PartKind::Ipv4Auth
+            | PartKind::Ipv6Auth => {
+                match chain_refusal(placed(source, stop.start, stop.refusal)) {
+                    Some(refusal) => Some((refusal, stop.kind.layer())),
+                    None => None,
+                }
+            }
+            _ => None,
+        },
+        None => None,
+    }
+}
+
+/// The refusal of a part, as one of an extension header, if it can be one.
+fn chain_refusal(refusal: SliceError) -> Option<HeaderSliceError>
+    ensures { result ≡ chain_refusal refusal }
+{
+    match refusal {
+        SliceError::Len(error) => Some(HeaderSliceError::Len(error)),
+        SliceError::Ipv4Exts(error) => Some(HeaderSliceError::Content(HeaderError::IpAuth(error))),
+        SliceError::Ipv6Exts(error) => Some(HeaderSliceError::Content(error)),
+        _ => None,
     }
 }

@@ -19,7 +19,7 @@ returns c = record {
   value = (
     c.in_ok-header_len.ensures.0,
     stepped c.args.frame.now c.args.turn c.args.start c.args.end c.requires.order c.requires.within c.in_ok-header_len.ensures.0
-    c.in_ok-header_len.header_len c.cut_at-there.result c.announced-said.result c.in_ok-header_len.part c.source.result c.is_cut_off.result c.next_turn.result
-    c.in_ok-header_len.ensures.1.0 c.announced-said.ensures c.cut_at-there.ensures c.in_ok-header_len.ensures.1.1 c.source.ensures c.is_cut_off.ensures c.next_turn.ensures,
+        c.in_ok-header_len.header_len c.cut_at-there.result c.announced-said.result c.in_ok-header_len.part c.source.result c.is_cut_off.result c.next_turn.result
+        c.in_ok-header_len.ensures.1.0 c.announced-said.ensures c.cut_at-there.ensures c.in_ok-header_len.ensures.1.1 c.source.ensures c.is_cut_off.ensures c.next_turn.ensures,
   );
 }

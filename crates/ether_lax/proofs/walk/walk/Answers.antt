@@ -1,11 +1,11 @@
 use Rattle.std.proofs.Common.{◌≡◌, ◌≤◌, length, Option, refl, sym, ap, ◌∙◌, subst, arith}
-use Rattle.ether_lax.specs.Found.{Parts, found_in, with_part}
+use Rattle.ether_lax.specs.Found.{Parts, found_in, no_parts, with_part}
 use Rattle.ether_lax.specs.Parts.{part_at}
 use Rattle.ether_lax.specs.Walks.{IsInside, LiesIn}
 use Rattle.ether_link.specs.declared.layout.Place.{Place}
 use Rattle.ether_lax.specs.declared.found.FoundIp.{FoundIp}
 use Rattle.ether_lax.proofs.FoundLemmas.{inside_with, last_with}
-use Rattle.ether_lax.proofs.WalkLemmas.{IsWalking, walk_taken, walk_stopped, walk_ended, walk_on}
+use Rattle.ether_lax.proofs.WalkLemmas.{IsWalking, walk_begun, walk_taken, walk_stopped, walk_ended, walk_on}
 use Rattle.ether_lax.proofs.walk.walk.Goals as goal
 
 pub returns-then-is_taken-clause-value : goal.returns-then-is_taken-clause-value
@@ -53,3 +53,15 @@ returns-clause-value c =
     let walking = c.loop-turn.invariant.walking in
     let here = rw c.in_default.is at walking in
     walk_ended c.args.in_places c.args.frame.now c.args.first (found_in c.loop-turn.found) c.loop-turn.start c.loop-turn.end here
+
+pub loop-turn-init : goal.loop-turn-init
+loop-turn-init c =
+    let nothing : found_in c.new-found.result ≡ no_parts = c.new-found.ensures in
+    record {
+      walking = subst (λ (parts : Parts). IsWalking c.args.in_places c.args.frame.now c.args.first parts c.args.first 0 (length c.args.frame.now)) (sym nothing)
+          (walk_begun c.args.in_places c.args.frame.now c.args.first c.requires);
+      order = omega arith;
+      within = omega arith;
+      inside = subst (λ (ip : Option FoundIp). IsInside (length c.args.frame.now) 0 ip) (sym (ap (λ (parts : Parts). parts.ip) nothing)) tt;
+      last = subst (λ (place : Option Place). LiesIn (length c.args.frame.now) place) (sym (ap (λ (parts : Parts). parts.last) nothing)) tt;
+    }

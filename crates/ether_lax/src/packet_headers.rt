@@ -1,0 +1,95 @@
+//! The headers of packets as structs.
+ghost use Rattle.std.specs.Prelude.{◌≡◌, Some, None, false, drop};
+ghost use Rattle.wire_base.specs.Bytes.{be16_at};
+ghost use Rattle.ether_link.specs.Form.{Reads, no_map};
+ghost use Rattle.ether_link.specs.Ethernet2.{ethernet2_form, ethernet2_header};
+ghost use Rattle.ether_link.specs.LinkGrammar.{by_ether_type};
+ghost use Rattle.ether_link.specs.declared.len_source.LenSource.TheVariants.{Slice};
+ghost use Rattle.ether_link.specs.declared.layout.PartKind.TheVariants as kind;
+ghost use Rattle.ether_link.specs.declared.link.LinkHeader.TheVariants as header;
+ghost use Rattle.ether_ip.specs.Ip.{ip_slice_form};
+
+use crate::headers::headers;
+use crate::step::{by_ether_type, first};
+use crate::{LaxEtherPayloadSlice, LaxPayloadSlice};
+use arrayvec::ArrayVec;
+use ether_ip::err::ip::LaxHeaderSliceError;
+use ether_ip::err::packet::SliceError;
+use ether_ip::{NetHeaders, TransportHeader, ip_header_len};
+use ether_link::err::{Layer, LenError};
+use ether_link::{EtherType, Ethernet2Slice, LenSource, LinkExtHeader, LinkHeader, PartKind};
+
+/// The headers of a packet as structs: every header that is there, and what stopped the dissection.
+/// There is one place for each extension header of IPv6, and one more for destination options behind a
+/// routing header; a header whose place is taken ends the dissection.
+#[derive(Clone, Debug, Drop, PartialEq, Eq)]
+pub struct LaxPacketHeaders<'a> {
+    pub link: Option<LinkHeader>,
+    /// The VLAN tags and MACsec headers, three at most.
+    pub link_exts: ArrayVec<LinkExtHeader, 3>,
+    pub net: Option<NetHeaders>,
+    pub transport: Option<TransportHeader>,
+    /// What is behind the last header.
+    pub payload: LaxPayloadSlice<'a>,
+    /// What stopped the dissection, counted from the first byte that was handed in, and the layer of
+    /// the refused part.
+    pub stop_err: Option<(SliceError, Layer)>,
+}
+
+impl<'a> LaxPacketHeaders<'a> {
+    ghost use Rattle.ether_lax.specs.Headers.{HoldsHeaders};
+    ghost use Rattle.ether_lax.specs.Payloads.{OfLink, Nothing};
+    ghost use Rattle.ether_lax.specs.Steps.{begins_with};
+
+    /// How many link extensions are read at most.
+    pub const LINK_EXTS_CAP: usize = 3;
+
+    /// The headers of an Ethernet frame without a check sequence at its end. It is refused where it
+    /// has fewer than 14 bytes.
+    pub fn from_ethernet(slice: &'a [u8]) -> Result<LaxPacketHeaders<'a>, LenError>
+        ensures value { let payload = OfLink (record {
+          incomplete = false;
+          ether_type = record { 0 = be16_at slice.now 12 };
+          source = Slice;
+          bytes = drop 14 slice.now;
+        }) in
+            Reads (ethernet2_form no_map) slice.now result (λ packet.
+            (packet.link ≡ Some (header.Ethernet2 (ethernet2_header slice.now)))
+            × HoldsHeaders slice.now (begins_with kind.Ethernet2) payload packet) }
+    {
+        let frame = Ethernet2Slice::from_slice_without_fcs(slice)?;
+        let payload = frame.payload();
+        let start = LaxPayloadSlice::Ether(LaxEtherPayloadSlice {
+            incomplete: false,
+            ether_type: payload.ether_type,
+            len_source: payload.len_source,
+            payload: payload.payload,
+        });
+        let link = Some(LinkHeader::Ethernet2(frame.to_header()));
+        Ok(headers(slice, link, start, first(PartKind::Ethernet2)))
+    }
+
+    /// The headers behind an ether type.
+    pub fn from_ether_type(ether_type: EtherType, slice: &'a [u8]) -> LaxPacketHeaders<'a>
+        ensures link { result.link ≡ None }
+        ensures value { HoldsHeaders slice.now (by_ether_type 0 ether_type.0)
+            (OfLink (record { incomplete = false; ether_type = ether_type; source = Slice; bytes = slice.now })) result }
+    {
+        let start = LaxPayloadSlice::Ether(LaxEtherPayloadSlice {
+            incomplete: false,
+            ether_type,
+            len_source: LenSource::Slice,
+            payload: slice,
+        });
+        headers(slice, None, start, by_ether_type(0, ether_type.0))
+    }
+
+    /// The headers of an IP packet. It is refused where its header is.
+    pub fn from_ip(slice: &'a [u8]) -> Result<LaxPacketHeaders<'a>, LaxHeaderSliceError>
+        ensures value { Reads ip_slice_form slice.now result (λ packet.
+            (packet.link ≡ None) × HoldsHeaders slice.now (begins_with kind.Ip) Nothing packet) }
+    {
+        let _header_len = ip_header_len(slice)?;
+        Ok(headers(slice, None, LaxPayloadSlice::Empty, first(PartKind::Ip)))
+    }
+}
