@@ -1,5 +1,5 @@
 -- The chain of aliases, answer by answer.
-use Rattle.std.proofs.Common.{◌≡◌, ◌↔◌, ℕ, zero, suc, ◌+◌, ◌-◌, ◌<◌, ◌≤◌, ◌==◌, Bool, true, false, cond, ltb, List, [], ◌∷◌, ◌++◌, length, take, reverse, Option, Some, None, IsSome, is_some, Ok, option_map, refl, sym, ◌∙◌, ap, subst, arith, append_assoc}
+use Rattle.std.proofs.Common.{◌≡◌, ◌↔◌, ℕ, suc, ◌+◌, ◌-◌, ◌<◌, ◌≤◌, true, false, ltb, List, [], ◌∷◌, ◌++◌, length, take, reverse, Option, Some, None, IsSome, is_some, Ok, option_map, refl, sym, ◌∙◌, ap, subst, arith, append_assoc}
 use Rattle.std.proofs.lemmas.Bool.{lt-ltb, le-ltb, cond-true, cond-false}
 use Rattle.std.proofs.lemmas.List.{append-nil, reverse-append, reverse-reverse, length-take, length-append, take_all, take-append-le}
 use Rattle.net_wire.specs.declared.address.IpAddress.{IpAddress}

@@ -1,17 +1,17 @@
 -- What one answer makes of the chain.
-use Rattle.std.proofs.Common.{◌≡◌, ◌≢◌, ◌↔◌, ℕ, Bool, true, false, List, [], ◌∷◌, ◌++◌, map, take, Option, Some, None, Result, Ok, Err, IsTrue, option_map, refl, sym, ◌∙◌, ap, subst}
+use Rattle.std.proofs.Common.{◌≡◌, ◌↔◌, ℕ, Bool, true, false, List, [], ◌∷◌, ◌++◌, map, take, Some, Result, Ok, Err, IsTrue, option_map, refl, sym, ◌∙◌, ap, subst}
 use Rattle.std.specs.Bool.{Decides}
 use Rattle.std.specs.Cmp.{unsigned_Decides}
 use Rattle.std.specs.Prelude.{nat_eq}
 use Rattle.std.specs.Cmp.Lexicographic.{pointwise}
 use Rattle.std.proofs.lemmas.Slice.Eq.{slice_eq-Decides}
-use Rattle.std.proofs.lemmas.Bool.{cond-true, cond-false, eq-eqb, ne_eqb}
+use Rattle.std.proofs.lemmas.Bool.{cond-true, cond-false, eq-eqb}
 use Rattle.std.proofs.lemmas.List.{append-nil}
 use Rattle.net_wire.specs.declared.address.IpAddress.{IpAddress}
 use Rattle.net_wire.specs.declared.error.Malformed.{Malformed}
 use Rattle.net_wire.specs.DnsName.{LabelList, name_of}
 use Rattle.net_wire.proofs.DnsNameLemmas.{mapped}
-use Rattle.dns_client.specs.AnswerChain.{Name, is_same_name, Content, HasAddress, HasAlias, HasNeither, AnswerValue, target_or, next_name, address_in, addresses_for}
+use Rattle.dns_client.specs.AnswerChain.{Name, is_same_name, HasAddress, HasAlias, AnswerValue, target_or, next_name, address_in, addresses_for}
 
 names_decided : (one other : Name) → Decides (is_same_name one other) (one ≡ other)
 names_decided one other =

@@ -1,10 +1,10 @@
 -- Names as texts and as bytes.
-use Rattle.std.proofs.Common.{◌≡◌, ℕ, zero, suc, ◌+◌, ◌-◌, ◌<◌, ◌≤◌, Bool, true, false, cond, eqb, ltb, leb, ◌||◌, List, [], ◌∷◌, ◌++◌, length, take, drop, get_or, Option, Some, None, Result, Ok, Err, option_map, is_some, refl, sym, ◌∙◌, ap, arith, append_assoc, length-append}
+use Rattle.std.proofs.Common.{◌≡◌, ℕ, zero, suc, ◌+◌, ◌<◌, ◌≤◌, Bool, true, false, cond, eqb, ltb, leb, ◌||◌, List, [], ◌∷◌, ◌++◌, length, take, drop, get_or, Option, Some, None, option_map, is_some, refl, sym, ◌∙◌, ap, arith, length-append}
 use Rattle.std.specs.Prelude.{option_and_then}
 use Rattle.std.specs.List.{onto_first}
-use Rattle.std.proofs.lemmas.Bool.{cond-true, cond-false, eq-eqb, ne_eqb, lt-ltb, le-ltb, le-leb, ltb-false, ltb-true, eqb-false, or_parts}
+use Rattle.std.proofs.lemmas.Bool.{cond-true, cond-false, eq-eqb, ne_eqb, lt-ltb, le-leb, ltb-false, eqb-false}
 use Rattle.std.proofs.lemmas.List.{take_at, drop_at}
-use Rattle.net_wire.specs.DnsName.{AtLabel, AtFault, piece_at, LabelList, labels_after, labels_at, name_of, name_at, name_len_after, name_len}
+use Rattle.net_wire.specs.DnsName.{AtLabel, piece_at, labels_after, labels_at, name_of, name_at, name_len_after, name_len}
 use Rattle.net_wire.proofs.DnsNameLemmas.{labels_at_piece, name_len_piece}
 use Rattle.dns_client.specs.declared.error.StartQueryError.{StartQueryError}
 use Rattle.dns_client.specs.declared.error.StartQueryError.TheVariants.{InvalidName, NameTooLong}

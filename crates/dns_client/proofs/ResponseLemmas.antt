@@ -1,14 +1,14 @@
 -- What a response decides.
-use Rattle.std.proofs.Common.{◌≡◌, ◌↔◌, ℕ, suc, ◌+◌, ◌<◌, Bool, true, false, cond, eqb, ◌&&◌, List, [], ◌∷◌, ◌++◌, length, take, drop, get_or, set, Option, Some, None, IsTrue, is_some, option_map, refl, sym, ◌∙◌, ap, subst, arith, add-one}
+use Rattle.std.proofs.Common.{◌≡◌, ◌↔◌, ℕ, suc, ◌<◌, Bool, true, false, cond, eqb, ◌&&◌, List, [], ◌∷◌, ◌++◌, length, take, drop, get_or, set, Option, Some, None, IsTrue, is_some, option_map, refl, sym, ◌∙◌, ap, add-one}
 use Rattle.std.specs.Prelude.{option_and_then}
-use Rattle.std.proofs.lemmas.Bool.{cond-true, cond-false, eq-eqb}
+use Rattle.std.proofs.lemmas.Bool.{cond-true, eq-eqb}
 use Rattle.std.proofs.lemmas.List.{drop_more, set_split}
 use Rattle.net_wire.specs.declared.address.IpAddress.{IpAddress}
 use Rattle.net_wire.specs.DnsName.{LabelList, labels_at, name_of, name_at, name_len}
 use Rattle.net_wire.specs.DnsMessage.{QuestionValue, type_number, question_at, answer_count}
 use Rattle.dns_client.specs.declared.query.DnsQuery.{DnsQuery}
 use Rattle.dns_client.specs.declared.response.Arrived.{Arrived}
-use Rattle.dns_client.specs.AnswerChain.{Name, is_same_name, chain_answer, answers_at}
+use Rattle.dns_client.specs.AnswerChain.{Name, chain_answer, answers_at}
 use Rattle.dns_client.specs.PlainName.{plain_name}
 use Rattle.dns_client.specs.Response.{is_named, asks_for, chain_from, answer_to, answer_for, reaches, decided, settled, first_decided}
 use Rattle.dns_client.specs.Slots.{Slots}

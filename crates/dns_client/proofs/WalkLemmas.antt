@@ -1,16 +1,15 @@
 -- Looks one after another.
-use Rattle.std.proofs.Common.{◌≡◌, ℕ, suc, ◌+◌, ◌<◌, ◌≤◌, List, [], ◌∷◌, ◌++◌, length, take, drop, get_or, set, Option, Some, None, IsSome, Result, Ok, Err, ℤ, refl, sym, ◌∙◌, ap, subst, arith, add-one, append_assoc}
+use Rattle.std.proofs.Common.{◌≡◌, ℕ, suc, ◌+◌, ◌<◌, ◌≤◌, [], ◌∷◌, ◌++◌, length, take, drop, get_or, set, Option, Some, None, IsSome, Result, Ok, Err, refl, sym, ◌∙◌, ap, subst, arith, add-one, append_assoc}
 use Rattle.std.proofs.lemmas.List.{drop_more, take_more, take_more_set, drop-set-lt, set_split, append-nil, length-take-le}
 use Rattle.net_wire.specs.declared.address.IpAddress.{IpAddress}
 use Rattle.net_wire.specs.declared.error.EmitError.{EmitError}
 use Rattle.dns_client.specs.declared.look.Choice.TheVariants as variant
-use Rattle.dns_client.specs.declared.look.Route.{Route}
 use Rattle.dns_client.specs.declared.query.DnsQuery.{DnsQuery}
 use Rattle.dns_client.specs.declared.query.QueryState.{QueryState}
 use Rattle.dns_client.specs.declared.query.QueryState.TheVariants.{Pending, Answered, Failed}
 use Rattle.dns_client.specs.declared.query.Turn.{Turn}
 use Rattle.dns_client.specs.Emit.{Outgoing, Emitted}
-use Rattle.dns_client.specs.Looks.{Choice, Pass, Keep, Fail, Ask, look, state_with, with_turn, Walk, Quiet, Sends, behind, walk_on, walk, message_for, Dispatched}
+use Rattle.dns_client.specs.Looks.{Choice, state_with, with_turn, Walk, Quiet, Sends, behind, walk_on, walk, message_for, Dispatched}
 use Rattle.dns_client.specs.LookRead.{request_in, request_of, choice_in}
 use Rattle.dns_client.specs.Response.{failed}
 use Rattle.dns_client.specs.Slots.{Slots}

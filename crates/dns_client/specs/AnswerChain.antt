@@ -1,5 +1,5 @@
 -- The answer of a response: which records are on the chain of aliases from a name on (RFC 1034, section 3.6.2).
-use Rattle.std.specs.Prelude.{◌≡◌, ℕ, zero, suc, ◌+◌, ◌==◌, nat_lt, nat_eq, Bool, List, [], ◌∷◌, ◌++◌, take, drop, reverse, Option, Some, None, option_map, option_and_then, if◌then◌else◌}
+use Rattle.std.specs.Prelude.{ℕ, zero, suc, ◌==◌, nat_lt, nat_eq, Bool, List, [], ◌∷◌, ◌++◌, take, reverse, Option, Some, None, option_map, if◌then◌else◌}
 use Rattle.std.specs.Cmp.Lexicographic.{pointwise}
 use Rattle.net_wire.specs.declared.address.IpAddress.{IpAddress}
 use Rattle.net_wire.specs.declared.address.IpAddress.TheVariants as ip

@@ -1,7 +1,7 @@
 -- What is read of an answer without where its names lie in memory.
-use Rattle.std.specs.Prelude.{◌≡◌, ◌↔◌, ℕ, ◌≤◌, List, Option, Some, None, option_map}
+use Rattle.std.specs.Prelude.{Option, Some, None, option_map}
 use Rattle.net_wire.specs.DnsLabels.{labels_left}
-use Rattle.net_wire.specs.DnsName.{name_of, wire_len}
+use Rattle.net_wire.specs.DnsName.{name_of}
 use Rattle.dns_client.specs.declared.answer.Answer.{Answer}
 use Rattle.dns_client.specs.declared.answer.AnswerData.{AnswerData}
 use Rattle.dns_client.specs.declared.answer.AnswerData.TheVariants as read

@@ -1,6 +1,5 @@
 -- The client as a value, without where its slots lie in memory.
-use Rattle.std.specs.Prelude.{◌≡◌, ℕ, ◌==◌, ◌<◌, ◌⊎◌, nat_lt, is_some, unwrap_or, not, ◌&&◌, ◌||◌, List, length, Bool, true, Option, Some, None, Result, Ok, Err, IfOk, IfErr, OnErr, if◌then◌else◌}
-use Rattle.std.specs.List.{list_any}
+use Rattle.std.specs.Prelude.{◌≡◌, ℕ, ◌==◌, ◌⊎◌, nat_lt, is_some, unwrap_or, not, ◌&&◌, List, length, Bool, Option, Some, None, Result, Err, IfOk, IfErr, OnErr, if◌then◌else◌}
 use Rattle.std.specs.Borrow.{GName}
 use Rattle.managed.specs.Storage.{items_of, item_storage}
 use Rattle.net_wire.specs.declared.address.IpAddress.{IpAddress}

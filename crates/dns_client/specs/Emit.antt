@@ -1,5 +1,5 @@
 -- What a call of an emitter gives.
-use Rattle.std.specs.Prelude.{◌≡◌, ℕ, ◌+◌, List, length, Result, OnOk}
+use Rattle.std.specs.Prelude.{◌≡◌, ℕ, List, Result, OnOk}
 use Rattle.std.specs.Result.{IsErrOf}
 use Rattle.net_wire.specs.declared.error.EmitError.{EmitError}
 use Rattle.net_wire.specs.declared.error.EmitError.TheVariants.{Unresolved, NoMemory}

@@ -15,7 +15,6 @@ use Rattle.dns_client.specs.declared.query.QueryState.TheVariants.{Pending, Answ
 use Rattle.dns_client.specs.declared.query.Turn.{Turn}
 use Rattle.dns_client.specs.declared.look.Route.{Route}
 use Rattle.dns_client.specs.Emit.{Outgoing, Emitted}
-use Rattle.dns_client.specs.Query.{pending_with}
 use Rattle.dns_client.specs.Response.{failed}
 use Rattle.dns_client.specs.Slots.{Slots}
 use Rattle.dns_client.specs.Waiting.{RequestValue, Waiting}

@@ -1,5 +1,5 @@
 -- Queries.
-use Rattle.std.specs.Prelude.{◌≡◌, ℕ, ◌+◌, ◌%◌, ◌<◌, ◌≤◌, List, Option, None, Result, Ok, Err, pos, ⊤}
+use Rattle.std.specs.Prelude.{ℕ, ◌+◌, ◌%◌, List, None, Result, Ok, Err, pos}
 use Rattle.net_wire.specs.declared.dns.dns_type.DnsType.{DnsType}
 use Rattle.net_wire.specs.declared.address.IpAddress.{IpAddress}
 use Rattle.arrayvec.specs.ArrayVec.{ArrayVec}
@@ -10,7 +10,7 @@ use Rattle.dns_client.specs.declared.query.Turn.{Turn}
 use Rattle.dns_client.specs.declared.query.DnsQuery.{DnsQuery}
 use Rattle.dns_client.specs.declared.query.QueryState.{QueryState}
 use Rattle.dns_client.specs.declared.query.QueryState.TheVariants.{Pending, Answered, Failed}
-use Rattle.dns_client.specs.Waiting.{RequestValue, Waiting}
+use Rattle.dns_client.specs.Waiting.{RequestValue}
 
 -- the turn of a query that was not looked at yet: due at once, first place, one second until the message is sent again
 abbrev pub first_turn : Turn

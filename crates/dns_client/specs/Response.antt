@@ -1,5 +1,5 @@
 -- Which response reaches a query, and what it decides (RFC 1035, section 7.3; RFC 5452, section 9.1).
-use Rattle.std.specs.Prelude.{◌≡◌, ℕ, ◌==◌, ◌&&◌, ◌||◌, nat_le, nat_eq, bit_and, Bool, true, false, List, [], ◌∷◌, drop, map, length, Option, Some, None, option_map, is_some, if◌then◌else◌}
+use Rattle.std.specs.Prelude.{◌≡◌, ℕ, ◌==◌, ◌&&◌, ◌||◌, nat_le, nat_eq, bit_and, Bool, false, List, [], ◌∷◌, drop, map, length, Option, Some, None, option_map, is_some, if◌then◌else◌}
 use Rattle.std.specs.List.{list_any}
 use Rattle.std.specs.Cmp.Lexicographic.{pointwise}
 use Rattle.net_wire.specs.declared.address.IpAddress.{IpAddress}

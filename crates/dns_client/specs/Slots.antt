@@ -1,9 +1,7 @@
 -- The slots of queries.
-use Rattle.std.specs.Prelude.{◌≡◌, ℕ, zero, suc, ◌<◌, List, [], ◌∷◌, length, Bool, true, Option, Some, None, Result, Ok, Err, IsSome, IfOk, IfErr, slice_index_or, slice_set, int_lt, ℤ, if◌then◌else◌}
+use Rattle.std.specs.Prelude.{◌≡◌, ℕ, suc, List, [], ◌∷◌, Option, Some, None, Result, slice_index_or, slice_set, int_lt, ℤ, if◌then◌else◌}
 use Rattle.arrayvec.specs.ArrayVec.{ArrayVec}
 use Rattle.net_wire.specs.declared.address.IpAddress.{IpAddress}
-use Rattle.dns_client.specs.declared.error.StartQueryError.{StartQueryError}
-use Rattle.dns_client.specs.declared.error.StartQueryError.TheVariants.{NoFreeSlot, NoMemory}
 use Rattle.dns_client.specs.declared.error.GetQueryResultError.{GetQueryResultError}
 use Rattle.dns_client.specs.declared.query.QueryHandle.{QueryHandle}
 use Rattle.dns_client.specs.declared.query.DnsQuery.{DnsQuery}

@@ -1,5 +1,5 @@
 -- How far a query has come, in turns: one for each place of the list that it asks.
-use Rattle.std.specs.Prelude.{ℕ, ◌<◌, ◌≤◌}
+use Rattle.std.specs.Prelude.{◌<◌, ◌≤◌}
 use Rattle.dns_client.specs.declared.query.Turn.{Turn}
 
 -- a list has three places at most, and a message is sent again within ten seconds
