@@ -1,5 +1,6 @@
 -- The client's plans and messages without where their parts lie in memory.
-use Rattle.std.specs.Prelude.{⊤}
+use Rattle.std.specs.Prelude.{◌≡◌, ⊤}
+use Rattle.net_wire.specs.declared.protocol.IpProtocol.TheVariants.{Udp}
 use Rattle.net_wire.specs.DhcpBytes.{IsWritable}
 use Rattle.dhcp_client.specs.declared.messages.OutgoingMessage.{OutgoingMessage}
 use Rattle.dhcp_client.specs.declared.plan.Plan as declared
@@ -15,8 +16,8 @@ plan_value variant.Wait = Wait
 plan_value variant.Restart = Restart
 plan_value (variant.Send outgoing before after) = Send (outgoing_value outgoing) before after
 
--- the message, if there is one, can be written
+-- the message, if there is one, can be written, and goes by UDP
 abbrev pub IsWritablePlan : Plan → Type 0
 IsWritablePlan Wait = ⊤
 IsWritablePlan Restart = ⊤
-IsWritablePlan (Send outgoing before after) = IsWritable outgoing.message
+IsWritablePlan (Send outgoing before after) = IsWritable outgoing.message × (outgoing.ip.next_header ≡ Udp)

@@ -1,6 +1,7 @@
 //! The messages of the client (RFC 2131, section 4.4.1).
 ghost use Rattle.std.specs.Prelude.{◌≡◌, ◌+◌, ◌≤◌, map, length};
 ghost use Rattle.std.specs.List.{AllByRecursion};
+ghost use Rattle.net_wire.specs.declared.protocol.IpProtocol.TheVariants.{Udp};
 ghost use Rattle.net_wire.specs.DhcpMessage.{message_of, option_value};
 ghost use Rattle.net_wire.specs.DhcpBytes.{additional_bytes, address_option, IsWritable, IsWritableOption};
 ghost use Rattle.dhcp_client.specs.Messages.{client_message, outgoing_between};
@@ -86,7 +87,8 @@ pub(crate) fn outgoing<'a>(
     dhcp: DhcpRepr<'a>,
 ) -> OutgoingMessage<'a>
     requires { IsWritable (message_of dhcp) }
-    ensures { outgoing_value result ≡ outgoing_between src_addr dst_addr client_port server_port (message_of dhcp.entry) }
+    ensures value { outgoing_value result ≡ outgoing_between src_addr dst_addr client_port server_port (message_of dhcp.entry) }
+    ensures udp { result.ip.next_header ≡ Udp }
 {
     OutgoingMessage {
         ip: Ipv4Repr {

@@ -7,6 +7,7 @@ use net_wire::{Context, DhcpMessageType, DhcpRepr, Instant, Ipv4Address};
 
 impl<'a> Socket<'a> {
     ghost use Rattle.std.specs.Prelude.{◌≡◌};
+    ghost use Rattle.net_wire.specs.declared.protocol.IpProtocol.TheVariants.{Udp};
     ghost use Rattle.net_wire.specs.DhcpBytes.{IsWritable};
     ghost use Rattle.net_wire.specs.DhcpMessage.{message_of};
     ghost use Rattle.dhcp_client.specs.Config.{AreSettingsWritable};
@@ -139,6 +140,7 @@ impl<'a> Socket<'a> {
         requires { AreSettingsWritable self.now.settings cx.now.ip_mtu }
         ensures value { outgoing_value result ≡ discover_of self.now.settings cx.entry.now word }
         ensures writable { IsWritable (outgoing_value result).message }
+        ensures udp { result.ip.next_header ≡ Udp }
     {
         let naming = Naming {
             hardware_addr: cx.hardware_addr,
@@ -163,6 +165,7 @@ impl<'a> Socket<'a> {
         ensures value { outgoing_value result
             ≡ request_of self.now.settings cx.entry.now server requested_ip self.now.transaction_id }
         ensures writable { IsWritable (outgoing_value result).message }
+        ensures udp { result.ip.next_header ≡ Udp }
     {
         let naming = Naming {
             hardware_addr: cx.hardware_addr,
@@ -187,6 +190,7 @@ impl<'a> Socket<'a> {
         requires { AreSettingsWritable self.now.settings cx.now.ip_mtu }
         ensures value { outgoing_value result ≡ renewal_of self.now.settings cx.entry.now address destination word }
         ensures writable { IsWritable (outgoing_value result).message }
+        ensures udp { result.ip.next_header ≡ Udp }
     {
         let naming = Naming {
             hardware_addr: cx.hardware_addr,
@@ -210,8 +214,9 @@ impl<'a> Socket<'a> {
     /// A message to all servers of the link.
     fn broadcast(&self, dhcp: DhcpRepr<'a>) -> OutgoingMessage<'a>
         requires { IsWritable (message_of dhcp) }
-        ensures { outgoing_value result
+        ensures value { outgoing_value result
             ≡ broadcast_outgoing self.now.settings.client_port self.now.settings.server_port (message_of dhcp.entry) }
+        ensures udp { result.ip.next_header ≡ Udp }
     {
         outgoing(
             Ipv4Address::UNSPECIFIED,
