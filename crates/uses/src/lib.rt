@@ -2,12 +2,14 @@
 //! calls that it makes, with no proof file.
 #![tactic(auto)]
 
+pub mod dissection;
 pub mod headers;
 pub mod ipsec;
 pub mod layers;
 #[cfg(test)]
 mod packet_tests;
 pub mod printing;
+pub mod runs;
 pub mod sums;
 #[cfg(test)]
 mod tests;

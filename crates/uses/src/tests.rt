@@ -1,5 +1,6 @@
 //! Each caller once on bytes from outside.
-use crate::{headers, sums};
+use crate::{dissection, headers, runs, sums};
+use net_wire::Instant;
 
 /// The IPv4 header of a datagram from 192.168.0.1 to 192.168.0.199.
 const HEADER: [u8; 20] = [
@@ -23,4 +24,37 @@ fn a_frame_names_what_it_carries(rt: HostRuntime) {
     let frame = [2, 0, 0, 0, 0, 1, 2, 0, 0, 0, 0, 2, 0x08, 0x06];
     assert_eq!(rt; headers::ether_type_of(&frame), Some(0x0806));
     assert_eq!(rt; headers::ether_type_of(&frame[..13]), None);
+}
+
+#[test]
+fn a_datagram_names_its_port(rt: HostRuntime) {
+    let datagram = [0x30, 0x39, 0x00, 0x35, 0x00, 0x08, 0x00, 0x00];
+    assert_eq!(rt; headers::destination_port(&datagram), Some(53));
+    assert_eq!(rt; headers::destination_port(&datagram[..7]), None);
+}
+
+#[test]
+fn a_cut_frame_is_not_dissected(rt: HostRuntime) {
+    let mut frame = [0u8; 42];
+    frame[12] = 0x08;
+    frame[13] = 0x06;
+    frame[15] = 1;
+    frame[16] = 0x08;
+    frame[18] = 6;
+    frame[19] = 4;
+    frame[21] = 1;
+    assert!(rt; dissection::is_dissected(&frame));
+    assert!(rt; !dissection::is_dissected(&frame[..41]));
+}
+
+#[test]
+fn a_script_begins_with_its_first_event(rt: HostRuntime) {
+    let alloc = rt.alloc();
+    let Ok(script) = Vec::from_slice(alloc, b"\x02\x00\x00\x00\x00\x00\x98\x96\x80") else {
+        return;
+    };
+    let time = runs::first_time(alloc, script);
+    assert!(rt; time == Ok(Some(Instant::from_micros(10_000_000))));
+    let none = runs::first_time(alloc, Vec::new(alloc));
+    assert!(rt; none == Ok(None));
 }
