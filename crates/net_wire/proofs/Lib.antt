@@ -1,3 +1,4 @@
+pub mod ArrivalLemmas
 pub mod DatagramLemmas
 pub mod DhcpFoundLemmas
 pub mod DhcpMessageLemmas

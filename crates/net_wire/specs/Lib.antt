@@ -1,3 +1,6 @@
+pub mod Arp
+pub mod Arrival
+pub mod ArrivalValues
 pub mod Datagram
 pub mod DhcpBytes
 pub mod DhcpFound
