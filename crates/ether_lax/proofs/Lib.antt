@@ -1,6 +1,13 @@
+pub mod AgreeLemmas
+pub mod AgreementLemmas
+pub mod ChainLemmas
+pub mod CutLemmas
+pub mod CutPacketLemmas
+pub mod CutResultLemmas
 pub mod FoundLemmas
 pub mod IpLemmas
 pub mod MapLemmas
+pub mod RankLemmas
 pub mod ReadLemmas
 pub mod StepLemmas
 pub mod WalkLemmas

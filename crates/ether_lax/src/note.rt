@@ -64,7 +64,7 @@ pub fn note_of(frame: &[u8]) -> FrameNote
 
 /// What a walk found, as a note.
 #[tactic(auto, using(crate::proofs::FoundLemmas::exts_len))]
-fn note_by(len: usize, found: &Found<'_>, stop: Option<Stop<SliceError>>) -> FrameNote
+pub(crate) fn note_by(len: usize, found: &Found<'_>, stop: Option<Stop<SliceError>>) -> FrameNote
     requires size { len ≤ 65535 }
     requires last { LiesIn len found.now.last }
     ensures { result ≡ note_by len (found_in found.now) stop }
