@@ -19,20 +19,25 @@ pub to_be_bytes-be32_at : (bytes : List ℕ) (at : ℕ) → All (λ byte. byte <
 to_be_bytes-be32_at bytes at all within =
     let four : length (slice_range bytes at (at + 4)) ≡ 4 = grind (arith, length-take, length-drop) in
     be_bytes_4 (slice_range bytes at (at + 4)) (be32_at bytes at) four
-    (λ i. byte_at (slice_range bytes at (at + 4)) i (All-take (λ byte. byte < 256) (at + 4 - at) (drop at bytes) (All-drop (λ byte. byte < 256) at bytes all))) refl
+    (λ i. byte_at (slice_range bytes at (at + 4)) i
+    (All-take (λ byte. byte < 256) (at + 4 - at) (drop at bytes)
+    (All-drop (λ byte. byte < 256) at bytes all))) refl
 
 -- the first two bytes
-pub take-two : (bytes : List ℕ) → 2 ≤ length bytes → take 2 bytes ≡ slice_index bytes 0 ∷ slice_index bytes 1 ∷ []
+pub take-two : (bytes : List ℕ) → 2 ≤ length bytes
+    → take 2 bytes ≡ slice_index bytes 0 ∷ slice_index bytes 1 ∷ []
 take-two [] within = absurd (omega (arith, within))
 take-two (one ∷ []) within = absurd (omega (arith, within))
 take-two (one ∷ two ∷ rest) within = refl
 
 -- the part from byte 12 up to a place that is there
-pub length-part : (bytes : List ℕ) (end : ℕ) → end ≤ length bytes → length (slice_range bytes 12 end) ≡ end - 12
+pub length-part : (bytes : List ℕ) (end : ℕ) → end ≤ length bytes
+    → length (slice_range bytes 12 end) ≡ end - 12
 length-part bytes end within = grind (arith, length-take, length-drop)
 
 -- a list is its front and its rest
-pub joined : (n : ℕ) (bytes front rest : List ℕ) → take n bytes ≡ front → drop n bytes ≡ rest → bytes ≡ front ++ rest
+pub joined : (n : ℕ) (bytes front rest : List ℕ) → take n bytes ≡ front → drop n bytes ≡ rest
+    → bytes ≡ front ++ rest
 joined n bytes front rest is_front is_rest = rw (← is_front, ← is_rest) (sym (take-append-drop n bytes))
 
 -- four parts in a row, whichever are joined first

@@ -1,5 +1,6 @@
--- The authentication header (RFC 4302, section 2): next header, length, two reserved bytes, security parameters index,
--- sequence number, integrity check value. Its length field counts the words of 32 bits, less 2 (section 2.2).
+-- The authentication header (RFC 4302, section 2): next header, length, two reserved bytes, security
+-- parameters index, sequence number, integrity check value. Its length field counts the words of 32 bits,
+-- less 2 (section 2.2).
 use Rattle.std.specs.Prelude.{◌≡◌, ℕ, ◌+◌, ◌-◌, ◌*◌, ◌/◌, ◌%◌, ◌^◌, ◌<◌, ◌≤◌, ◌⊎◌, List, [], ◌∷◌, ◌++◌, length, take, drop, slice_index, All}
 use Rattle.std.specs.Int.{to_be_bytes, w32}
 use Rattle.wire_base.specs.Bytes.{bytes_between, be32_at}
@@ -10,7 +11,8 @@ use Rattle.net_wire.specs.declared.protocol.IpProtocol.{IpProtocol}
 abbrev pub header_len : List ℕ → ℕ
 header_len bytes = (slice_index bytes 1 + 2) * 4
 
--- the bytes begin with a header: its fixed part is there, its length covers the fixed part, and it is there whole
+-- the bytes begin with a header: its fixed part is there, its length covers the fixed part, and it is there
+-- whole
 abbrev pub IsWhole : List ℕ → Type 0
 IsWhole bytes = (12 ≤ length bytes) × (0 < slice_index bytes 1) × (header_len bytes ≤ length bytes)
 
@@ -38,9 +40,11 @@ header_of bytes = record {
 unfoldable pub header_bytes : Header → List ℕ
 header_bytes h =
     ip_protocol_number h.next_header ∷ ((12 + length h.integrity_check_value) / 4 - 2) ∷ 0 ∷ 0 ∷ []
-    ++ to_be_bytes w32 h.security_parameters_index ++ to_be_bytes w32 h.sequence_number ++ h.integrity_check_value
+    ++ to_be_bytes w32 h.security_parameters_index ++ to_be_bytes w32 h.sequence_number
+    ++ h.integrity_check_value
 
--- a header that bytes can hold: its numbers fit, and its check value has whole words, as many as the length field counts
+-- a header that bytes can hold: its numbers fit, and its check value has whole words, as many as the length
+-- field counts
 pub record IsWritable (h : Header) : Type 0 where
   pub named : IsNamed h.next_header
   pub index : h.security_parameters_index < 2 ^ 32

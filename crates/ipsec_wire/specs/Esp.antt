@@ -1,4 +1,5 @@
--- The header of the encapsulating security payload (RFC 4303, section 2): security parameters index, sequence number.
+-- The header of the encapsulating security payload (RFC 4303, section 2): security parameters index, sequence
+-- number.
 use Rattle.std.specs.Prelude.{◌≡◌, ℕ, ◌^◌, ◌<◌, ◌≤◌, List, ◌++◌, length, drop, All}
 use Rattle.std.specs.Int.{to_be_bytes, w32}
 use Rattle.wire_base.specs.Bytes.{be32_at}

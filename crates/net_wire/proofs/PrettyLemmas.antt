@@ -6,13 +6,22 @@ use Rattle.net_wire.specs.Pretty.{ethernet_text, ethernet_lines, ethernet_line, 
 use Rattle.net_wire.specs.PrettyExamples.{IsEchoPrinted, AreCutPrinted, AreMessagesPrinted}
 
 pub echo : IsEchoPrinted
-unfolding ethernet_text ethernet_lines ethernet_line ethernet_payload_text ether_type_text hardware_address_text hex_pair ipv4_text ipv4_lines has_ipv4_packet is_right_sum ipv4_line sum_text ipv4_payload_text ipv4_address_text protocol_text icmpv4_text icmpv4_line echo_text other_message_text indent_text digits
+unfolding ethernet_text ethernet_lines ethernet_line ethernet_payload_text ether_type_text
+    hardware_address_text hex_pair ipv4_text ipv4_lines has_ipv4_packet is_right_sum ipv4_line sum_text
+    ipv4_payload_text ipv4_address_text protocol_text icmpv4_text icmpv4_line echo_text other_message_text
+    indent_text digits
 echo = refl
 
 pub cut : AreCutPrinted
-unfolding ethernet_text ethernet_lines ethernet_line ethernet_payload_text ether_type_text hardware_address_text hex_pair ipv4_text ipv4_lines has_ipv4_packet is_right_sum ipv4_line sum_text ipv4_payload_text ipv4_address_text protocol_text icmpv4_text icmpv4_line echo_text other_message_text indent_text digits
+unfolding ethernet_text ethernet_lines ethernet_line ethernet_payload_text ether_type_text
+    hardware_address_text hex_pair ipv4_text ipv4_lines has_ipv4_packet is_right_sum ipv4_line sum_text
+    ipv4_payload_text ipv4_address_text protocol_text icmpv4_text icmpv4_line echo_text other_message_text
+    indent_text digits
 cut = (refl, refl, refl)
 
 pub messages : AreMessagesPrinted
-unfolding ethernet_text ethernet_lines ethernet_line ethernet_payload_text ether_type_text hardware_address_text hex_pair ipv4_text ipv4_lines has_ipv4_packet is_right_sum ipv4_line sum_text ipv4_payload_text ipv4_address_text protocol_text icmpv4_text icmpv4_line echo_text other_message_text indent_text digits
+unfolding ethernet_text ethernet_lines ethernet_line ethernet_payload_text ether_type_text
+    hardware_address_text hex_pair ipv4_text ipv4_lines has_ipv4_packet is_right_sum ipv4_line sum_text
+    ipv4_payload_text ipv4_address_text protocol_text icmpv4_text icmpv4_line echo_text other_message_text
+    indent_text digits
 messages = (refl, refl)

@@ -25,14 +25,17 @@ ipv4_address_text address =
 -- what a frame carries, by its ether type
 unfoldable pub ether_type_text : ℕ → List ℕ
 ether_type_text number =
-    if number == 0x0800 then codes "IPv4" else if number == 0x0806 then codes "ARP" else if number == 0x86dd then codes "IPv6"
+    if number == 0x0800 then codes "IPv4" else if number == 0x0806 then codes "ARP"
+    else if number == 0x86dd then codes "IPv6"
     else codes "0x" ++ (hex_pair (number / 256) ++ hex_pair (number % 256))
 
 -- what a datagram carries, by its protocol number
 unfoldable pub protocol_text : ℕ → List ℕ
 protocol_text number =
-    if number == 1 then codes "ICMP" else if number == 2 then codes "IGMP" else if number == 6 then codes "TCP"
-    else if number == 17 then codes "UDP" else if number == 58 then codes "ICMPv6" else codes "0x" ++ hex_pair number
+    if number == 1 then codes "ICMP" else if number == 2 then codes "IGMP"
+    else if number == 6 then codes "TCP" else if number == 17 then codes "UDP"
+    else if number == 58 then codes "ICMPv6"
+    else codes "0x" ++ hex_pair number
 
 -- an echo message: its kind, identifier, sequence number, and how many bytes are behind these
 unfoldable pub echo_text : List ℕ → List ℕ → List ℕ
@@ -43,7 +46,8 @@ echo_text kind bytes =
 -- any other message of ICMP for IPv4: type and code
 unfoldable pub other_message_text : List ℕ → List ℕ
 other_message_text bytes =
-    codes "ICMPv4 type=" ++ (decimal (slice_index bytes 0) ++ (codes " code=" ++ decimal (slice_index bytes 1)))
+    codes "ICMPv4 type="
+    ++ (decimal (slice_index bytes 0) ++ (codes " code=" ++ decimal (slice_index bytes 1)))
 
 -- a message of ICMP for IPv4 (RFC 792): echo and echo reply have the types 8 and 0, with the code 0
 unfoldable pub icmpv4_line : List ℕ → List ℕ
@@ -73,7 +77,8 @@ is_right_sum bytes = word_sum (take (ihl_bytes bytes) bytes) % 65535 == 0
 unfoldable pub ipv4_line : List ℕ → List ℕ
 ipv4_line bytes =
     codes "IPv4 src=" ++ (ipv4_address_text (slice_range bytes 12 16) ++ (codes " dst="
-    ++ (ipv4_address_text (slice_range bytes 16 20) ++ (codes " proto=" ++ protocol_text (slice_index bytes 9)))))
+    ++ (ipv4_address_text (slice_range bytes 16 20)
+    ++ (codes " proto=" ++ protocol_text (slice_index bytes 9)))))
 
 unfoldable pub sum_text : List ℕ → List ℕ
 sum_text bytes = if is_right_sum bytes then [] else codes " (checksum incorrect)"
@@ -81,11 +86,14 @@ sum_text bytes = if is_right_sum bytes then [] else codes " (checksum incorrect)
 -- what an IPv4 packet carries, a level deeper: ICMP alone is printed
 unfoldable pub ipv4_payload_text : List ℕ → Indent → List ℕ
 ipv4_payload_text bytes indent =
-    if slice_index bytes 9 == 1 then 10 ∷ icmpv4_text (slice_range bytes (ihl_bytes bytes) (be16_at bytes 2)) (deeper indent) else []
+    if slice_index bytes 9 == 1
+    then 10 ∷ icmpv4_text (slice_range bytes (ihl_bytes bytes) (be16_at bytes 2)) (deeper indent)
+    else []
 
 unfoldable pub ipv4_lines : List ℕ → Indent → List ℕ
 ipv4_lines bytes indent =
-    if has_ipv4_packet bytes then ipv4_line bytes ++ (sum_text bytes ++ ipv4_payload_text bytes indent) else codes "(truncated)"
+    if has_ipv4_packet bytes then ipv4_line bytes ++ (sum_text bytes ++ ipv4_payload_text bytes indent)
+    else codes "(truncated)"
 
 unfoldable pub ipv4_text : List ℕ → Indent → List ℕ
 ipv4_text bytes indent = indent_text indent ++ ipv4_lines bytes indent
@@ -93,7 +101,8 @@ ipv4_text bytes indent = indent_text indent ++ ipv4_lines bytes indent
 unfoldable pub ethernet_line : List ℕ → List ℕ
 ethernet_line bytes =
     codes "EthernetII src=" ++ (hardware_address_text (slice_range bytes 6 12) ++ (codes " dst="
-    ++ (hardware_address_text (slice_range bytes 0 6) ++ (codes " type=" ++ ether_type_text (be16_at bytes 12)))))
+    ++ (hardware_address_text (slice_range bytes 0 6)
+    ++ (codes " type=" ++ ether_type_text (be16_at bytes 12)))))
 
 -- what an Ethernet frame carries, a level deeper: IPv4 alone is printed
 unfoldable pub ethernet_payload_text : List ℕ → Indent → List ℕ
@@ -103,7 +112,8 @@ ethernet_payload_text bytes indent =
 -- an Ethernet II frame (RFC 894), whose header has 14 bytes
 unfoldable pub ethernet_lines : List ℕ → Indent → List ℕ
 ethernet_lines bytes indent =
-    if nat_lt (length bytes) 14 then codes "(truncated)" else ethernet_line bytes ++ ethernet_payload_text bytes indent
+    if nat_lt (length bytes) 14 then codes "(truncated)"
+    else ethernet_line bytes ++ ethernet_payload_text bytes indent
 
 unfoldable pub ethernet_text : List ℕ → Indent → List ℕ
 ethernet_text bytes indent = indent_text indent ++ ethernet_lines bytes indent

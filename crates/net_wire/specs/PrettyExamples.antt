@@ -7,7 +7,8 @@ use Rattle.net_wire.specs.Pretty.{ethernet_text, ipv4_text, icmpv4_text}
 abbrev pub echo_frame : List ℕ
 echo_frame =
     1 ∷ 2 ∷ 3 ∷ 4 ∷ 5 ∷ 6 ∷ 17 ∷ 18 ∷ 19 ∷ 20 ∷ 21 ∷ 22 ∷ 8 ∷ 0 ∷ 69 ∷ 0 ∷ 0 ∷ 32 ∷ 0 ∷ 0 ∷ 64 ∷ 0 ∷ 64 ∷ 1
-    ∷ 210 ∷ 121 ∷ 17 ∷ 18 ∷ 19 ∷ 20 ∷ 33 ∷ 34 ∷ 35 ∷ 36 ∷ 8 ∷ 0 ∷ 142 ∷ 254 ∷ 18 ∷ 52 ∷ 171 ∷ 205 ∷ 170 ∷ 0 ∷ 0 ∷ 255 ∷ []
+    ∷ 210 ∷ 121 ∷ 17 ∷ 18 ∷ 19 ∷ 20 ∷ 33 ∷ 34 ∷ 35 ∷ 36 ∷ 8 ∷ 0 ∷ 142 ∷ 254 ∷ 18 ∷ 52 ∷ 171 ∷ 205 ∷ 170 ∷ 0
+    ∷ 0 ∷ 255 ∷ []
 
 abbrev pub IsEchoPrinted : Type 0
 IsEchoPrinted = ethernet_text echo_frame (indent_from [])
@@ -25,5 +26,6 @@ AreCutPrinted =
 -- an echo reply, and a message that is neither: destination unreachable, port unreachable
 abbrev pub AreMessagesPrinted : Type 0
 AreMessagesPrinted =
-    (icmpv4_text (0 ∷ 0 ∷ 0 ∷ 0 ∷ 0 ∷ 7 ∷ 1 ∷ 0 ∷ []) (indent_from []) ≡ codes "ICMPv4 echo reply id=7 seq=256 len=0")
+    (icmpv4_text (0 ∷ 0 ∷ 0 ∷ 0 ∷ 0 ∷ 7 ∷ 1 ∷ 0 ∷ []) (indent_from [])
+    ≡ codes "ICMPv4 echo reply id=7 seq=256 len=0")
     × (icmpv4_text (3 ∷ 3 ∷ 0 ∷ 0 ∷ 0 ∷ 0 ∷ 0 ∷ 0 ∷ []) (indent_from []) ≡ codes "ICMPv4 type=3 code=3")

@@ -13,8 +13,8 @@ indent_from prefix = record { prefix = prefix; level = 0 }
 abbrev pub deeper : Indent → Indent
 deeper indent = record indent { level = indent.level + 1 }
 
--- the prefix at the first line, and blanks and a branch below it: a blank for each byte of the prefix, and one for each
--- further level
+-- the prefix at the first line, and blanks and a branch below it: a blank for each byte of the prefix, and
+-- one for each further level
 unfoldable pub indent_text : Indent → List ℕ
 indent_text indent =
     if indent.level == 0 then indent.prefix

@@ -32,7 +32,8 @@ ip_protocol_number (protocol.Unknown number) = number
 -- the payload of a number: a number that has a name is never unknown
 abbrev pub ip_protocol_of : ℕ → IpProtocol
 ip_protocol_of number =
-    if number == 0 then HopByHop else if number == 1 then Icmp else if number == 2 then Igmp else if number == 6 then Tcp
+    if number == 0 then HopByHop else if number == 1 then Icmp else if number == 2 then Igmp
+    else if number == 6 then Tcp
     else if number == 17 then Udp else if number == 43 then Ipv6Route else if number == 44 then Ipv6Frag
     else if number == 50 then IpSecEsp else if number == 51 then IpSecAh else if number == 58 then Icmpv6
     else if number == 59 then Ipv6NoNxt else if number == 60 then Ipv6Opts else protocol.Unknown number

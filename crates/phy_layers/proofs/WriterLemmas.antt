@@ -18,10 +18,12 @@ Appends-keeps (Some a) (Some b) (Some c) xs p q = rw q p
 
 -- a write that took `count` bytes of the rest
 pub left_after_write : {old middle new : Option (List ℕ)} {piece rest : List ℕ} (count : ℕ)
-    → HasLeft old middle piece rest → Appends middle new (take count rest) → HasLeft old new piece (drop count rest)
+    → HasLeft old middle piece rest → Appends middle new (take count rest)
+    → HasLeft old new piece (drop count rest)
 left_after_write {old} {middle} {new} {piece} {rest} count left written = record {
   taken = left.taken ++ take count rest;
-  split = rw (append_assoc left.taken (take count rest) (drop count rest), take-append-drop count rest) left.split;
+  split = rw (append_assoc left.taken (take count rest) (drop count rest), take-append-drop count rest)
+      left.split;
   grown = Appends-then old middle new left.taken (take count rest) left.grown written;
 }
 

@@ -31,33 +31,41 @@ abbrev pub faults_of : ℕ → ℕ → ℕ
 faults_of device sink = min (device + sink) (2 ^ 64 - 1)
 
 -- the sink took the record of a frame, or is as it was where such frames are not captured
-pub record Captured {S : Type 0} (bytes : S → Option (List ℕ)) (faults : S → ℕ) (grows : Bool) (mode : PcapMode)
+pub record Captured {S : Type 0} (bytes : S → Option (List ℕ)) (faults : S → ℕ) (grows : Bool)
+    (mode : PcapMode)
     (direction : TracerDirection) (now : ℤ) (frame : List ℕ) (sink sink' : S) : Type 0 where
-  pub written : is_captured mode direction ≡ true → Took bytes faults grows (Ok tt) (packet_record (epoch_micros now) frame) sink sink'
+  pub written : is_captured mode direction ≡ true
+      → Took bytes faults grows (Ok tt) (packet_record (epoch_micros now) frame) sink sink'
   pub same : is_captured mode direction ≡ false → sink' ≡ sink
 
 -- the inner device gave a frame, which was then captured
-pub record CaptureGave {D S : Type 0} (gave : D → D → ℤ → List ℕ → PacketMeta → Type 0) (bytes : S → Option (List ℕ)) (faults : S → ℕ)
-    (grows : Bool) (lower lower' : D) (sink sink' : S) (mode mode' : PcapMode) (now : ℤ) (frame : List ℕ) (meta : PacketMeta) : Type 0 where
+pub record CaptureGave {D S : Type 0} (gave : D → D → ℤ → List ℕ → PacketMeta → Type 0)
+    (bytes : S → Option (List ℕ)) (faults : S → ℕ)
+    (grows : Bool) (lower lower' : D) (sink sink' : S) (mode mode' : PcapMode) (now : ℤ) (frame : List ℕ)
+    (meta : PacketMeta) : Type 0 where
   pub came : gave lower lower' now frame meta
   pub captured : Captured bytes faults grows mode RX now frame sink sink'
   pub setting : mode' ≡ mode
 
 -- a frame was captured, and then the inner device sent it
-pub record CaptureWent {D S : Type 0} (went : D → D → ℤ → List ℕ → PacketMeta → Type 0) (bytes : S → Option (List ℕ)) (faults : S → ℕ)
-    (grows : Bool) (lower lower' : D) (sink sink' : S) (mode mode' : PcapMode) (now : ℤ) (frame : List ℕ) (meta : PacketMeta) : Type 0 where
+pub record CaptureWent {D S : Type 0} (went : D → D → ℤ → List ℕ → PacketMeta → Type 0)
+    (bytes : S → Option (List ℕ)) (faults : S → ℕ)
+    (grows : Bool) (lower lower' : D) (sink sink' : S) (mode mode' : PcapMode) (now : ℤ) (frame : List ℕ)
+    (meta : PacketMeta) : Type 0 where
   pub captured : Captured bytes faults grows mode TX now frame sink sink'
   pub sent : went lower lower' now frame meta
   pub setting : mode' ≡ mode
 
 -- the inner device had no frame, dropped what it had or refused, and nothing was captured
-pub record CaptureStill {D S : Type 0} (still : D → D → Type 0) (lower lower' : D) (sink sink' : S) (mode mode' : PcapMode) : Type 0 where
+pub record CaptureStill {D S : Type 0} (still : D → D → Type 0) (lower lower' : D) (sink sink' : S)
+    (mode mode' : PcapMode) : Type 0 where
   pub below : still lower lower'
   pub same : sink' ≡ sink
   pub setting : mode' ≡ mode
 
 -- the inner device gave a frame, and the sink refused its record
-pub record CaptureRefusedIn {D S : Type 0} (gave : D → D → ℤ → List ℕ → PacketMeta → Type 0) (bytes : S → Option (List ℕ)) (faults : S → ℕ)
+pub record CaptureRefusedIn {D S : Type 0} (gave : D → D → ℤ → List ℕ → PacketMeta → Type 0)
+    (bytes : S → Option (List ℕ)) (faults : S → ℕ)
     (grows : Bool) (lower lower' : D) (sink sink' : S) (mode mode' : PcapMode) (now : ℤ) : Type 0 where
   pub frame : List ℕ
   pub meta : PacketMeta
@@ -67,15 +75,18 @@ pub record CaptureRefusedIn {D S : Type 0} (gave : D → D → ℤ → List ℕ 
   pub setting : mode' ≡ mode
 
 -- a frame was captured, and then the inner device dropped or refused it
-pub record CaptureStopped {D S : Type 0} (stopped : D → D → ℤ → List ℕ → Type 0) (bytes : S → Option (List ℕ)) (faults : S → ℕ)
-    (grows : Bool) (lower lower' : D) (sink sink' : S) (mode mode' : PcapMode) (now : ℤ) (frame : List ℕ) : Type 0 where
+pub record CaptureStopped {D S : Type 0} (stopped : D → D → ℤ → List ℕ → Type 0) (bytes : S → Option (List ℕ))
+    (faults : S → ℕ)
+    (grows : Bool) (lower lower' : D) (sink sink' : S) (mode mode' : PcapMode) (now : ℤ)
+    (frame : List ℕ) : Type 0 where
   pub captured : Captured bytes faults grows mode TX now frame sink sink'
   pub below : stopped lower lower' now frame
   pub setting : mode' ≡ mode
 
 -- the sink refused the record of a frame, and the inner device is as it was
 pub record CaptureRefusedOut {D S : Type 0} (bytes : S → Option (List ℕ)) (faults : S → ℕ)
-    (grows : Bool) (lower lower' : D) (sink sink' : S) (mode mode' : PcapMode) (now : ℤ) (frame : List ℕ) : Type 0 where
+    (grows : Bool) (lower lower' : D) (sink sink' : S) (mode mode' : PcapMode) (now : ℤ)
+    (frame : List ℕ) : Type 0 where
   pub error : SinkError
   pub refused : Took bytes faults grows (Err error) (packet_record (epoch_micros now) frame) sink sink'
   pub kept : lower' ≡ lower

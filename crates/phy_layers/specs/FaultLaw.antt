@@ -21,7 +21,8 @@ pub record DifferInOneBit (old new : List ℕ) : Type 0 where
 
 -- a frame that passes is the given one, or has one other bit
 abbrev pub IsWholeOrOneBit : Type 0
-IsWholeOrOneBit = (settings : FaultSettings) (state : FaultState) (direction : TracerDirection) (now : ℤ) (frame passed : List ℕ)
+IsWholeOrOneBit = (settings : FaultSettings) (state : FaultState) (direction : TracerDirection) (now : ℤ)
+    (frame passed : List ℕ)
     → frame_after (fault_outcome settings state direction now (length frame)).fate frame ≡ Some passed
     → (passed ≡ frame) ⊎ DifferInOneBit frame passed
 
@@ -42,26 +43,34 @@ settings_of drop corrupt limit rate = record {
   bucket_interval = 1000000;
 }
 
--- A received frame over the size limit draws nothing, a sent one once. With a chance of 0 two draws are made, and none hits.
+-- A received frame over the size limit draws nothing, a sent one once. With a chance of 0 two draws are made,
+-- and none hits.
 abbrev pub AreSizesDrawn : Type 0
 AreSizesDrawn =
     (fault_outcome (settings_of 0 0 41 0) first_state RX (pos 0) 42 ≡ outcome Dropped first_state)
-    × (fault_outcome (settings_of 0 0 41 0) first_state TX (pos 0) 42 ≡ outcome Dropped (after_words 0x00042021))
+    × (fault_outcome (settings_of 0 0 41 0) first_state TX (pos 0) 42
+    ≡ outcome Dropped (after_words 0x00042021))
     × (fault_outcome (settings_of 0 0 0 0) first_state RX (pos 0) 1537 ≡ outcome Dropped first_state)
-    × (fault_outcome (settings_of 0 0 42 0) first_state RX (pos 0) 42 ≡ outcome Whole (after_words 0x04080601))
+    × (fault_outcome (settings_of 0 0 42 0) first_state RX (pos 0) 42
+    ≡ outcome Whole (after_words 0x04080601))
 
--- With a chance of 100 percent four draws are made: the third is the place, the fourth the bit. An empty frame takes two.
+-- With a chance of 100 percent four draws are made: the third is the place, the fourth the bit. An empty
+-- frame takes two.
 abbrev pub AreFlipsDrawn : Type 0
 AreFlipsDrawn =
-    (fault_outcome (settings_of 0 100 0 0) first_state TX (pos 0) 42 ≡ outcome (Flipped 27 7) (after_words 0x1255994f))
-    × (fault_outcome (settings_of 0 100 0 0) first_state TX (pos 0) 0 ≡ outcome Whole (after_words 0x04080601))
-    × (fault_outcome (settings_of 100 100 0 0) first_state TX (pos 0) 42 ≡ outcome Dropped (after_words 0x00042021))
+    (fault_outcome (settings_of 0 100 0 0) first_state TX (pos 0) 42 ≡ outcome (Flipped 27 7)
+    (after_words 0x1255994f))
+    × (fault_outcome (settings_of 0 100 0 0) first_state TX (pos 0) 0
+    ≡ outcome Whole (after_words 0x04080601))
+    × (fault_outcome (settings_of 100 100 0 0) first_state TX (pos 0) 42
+    ≡ outcome Dropped (after_words 0x00042021))
 
--- With a rate of 3 a frame is dropped up to the interval, one draw after the last word; behind it the buckets are filled and
--- the frame takes one.
+-- With a rate of 3 a frame is dropped up to the interval, one draw after the last word; behind it the buckets
+-- are filled and the frame takes one.
 abbrev pub AreRatesKept : Type 0
 AreRatesKept =
-    (fault_outcome (settings_of 0 0 0 3) first_state RX (pos 1000000) 42 ≡ outcome Dropped (after_words 0x00042021))
+    (fault_outcome (settings_of 0 0 0 3) first_state RX (pos 1000000) 42
+    ≡ outcome Dropped (after_words 0x00042021))
     × (fault_outcome (settings_of 0 0 0 3) first_state RX (pos 1000001) 42
     ≡ outcome Whole (record { word = 0x04080601; refilled_at = pos 1000001; tx_bucket = 3; rx_bucket = 2 }))
     × (fault_outcome (settings_of 0 0 0 3) first_state TX (pos 1000001) 42

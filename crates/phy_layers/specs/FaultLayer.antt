@@ -14,7 +14,14 @@ use Rattle.phy_layers.specs.MemoryState.{counted}
 -- the layer before any frame: nothing is disturbed, and nothing was dropped
 abbrev pub fresh_layer : ℕ → FaultLayer
 fresh_layer seed = record {
-  settings = record { corrupt_chance = 0; drop_chance = 0; max_packet_size = 0; max_tx_rate = 0; max_rx_rate = 0; bucket_interval = 0 };
+  settings = record {
+    corrupt_chance = 0;
+    drop_chance = 0;
+    max_packet_size = 0;
+    max_tx_rate = 0;
+    max_rx_rate = 0;
+    bucket_interval = 0;
+  };
   state = record { word = seed; refilled_at = pos 0; tx_bucket = 0; rx_bucket = 0 };
   dropped = 0;
 }
@@ -71,7 +78,8 @@ pub record FaultDropped {D : Type 0} (gave : D → D → ℤ → List ℕ → Pa
   pub left : layer' ≡ layer_after layer (outcome_at layer RX now (length given))
 
 -- the inner device dropped what it had, or the rule what came
-abbrev pub FaultLostIn : {D : Type 0} → (D → D → ℤ → List ℕ → PacketMeta → Type 0) → (D → D → ℤ → Type 0) → D → D
+abbrev pub FaultLostIn : {D : Type 0} → (D → D → ℤ → List ℕ → PacketMeta → Type 0) → (D → D → ℤ → Type 0) → D
+    → D
     → FaultLayer → FaultLayer → ℤ → Type 0
 FaultLostIn gave lost_in inner inner' layer layer' now =
     (lost_in inner inner' now × (layer' ≡ layer)) ⊎ FaultDropped gave inner inner' layer layer' now
@@ -85,17 +93,21 @@ pub record FaultPassedLost {D : Type 0} (lost_out : D → D → ℤ → List ℕ
   pub left : layer' ≡ layer_after layer (outcome_at layer TX now (length frame))
 
 -- the rule dropped a frame that was to be sent, and the inner device is as it was
-pub record FaultKept {D : Type 0} (inner inner' : D) (layer layer' : FaultLayer) (now : ℤ) (frame : List ℕ) : Type 0 where
+pub record FaultKept {D : Type 0} (inner inner' : D) (layer layer' : FaultLayer) (now : ℤ)
+    (frame : List ℕ) : Type 0 where
   pub dropped : frame_after (outcome_at layer TX now (length frame)).fate frame ≡ None
   pub same : inner' ≡ inner
   pub left : layer' ≡ layer_after layer (outcome_at layer TX now (length frame))
 
-abbrev pub FaultLostOut : {D : Type 0} → (D → D → ℤ → List ℕ → Type 0) → D → D → FaultLayer → FaultLayer → ℤ → List ℕ → Type 0
+abbrev pub FaultLostOut : {D : Type 0} → (D → D → ℤ → List ℕ → Type 0) → D → D → FaultLayer → FaultLayer → ℤ
+    → List ℕ → Type 0
 FaultLostOut lost_out inner inner' layer layer' now frame =
-    FaultPassedLost lost_out inner inner' layer layer' now frame ⊎ FaultKept inner inner' layer layer' now frame
+    FaultPassedLost lost_out inner inner' layer layer' now frame
+    ⊎ FaultKept inner inner' layer layer' now frame
 
 -- the inner device refused to receive, and the layer is as it was
-pub record FaultRefusedIn {D : Type 0} (refused_in : D → D → ℤ → Type 0) (inner inner' : D) (layer layer' : FaultLayer) (now : ℤ) : Type 0 where
+pub record FaultRefusedIn {D : Type 0} (refused_in : D → D → ℤ → Type 0) (inner inner' : D)
+    (layer layer' : FaultLayer) (now : ℤ) : Type 0 where
   pub refused : refused_in inner inner' now
   pub left : layer' ≡ layer
 
@@ -108,6 +120,7 @@ pub record FaultRefusedOut {D : Type 0} (refused_out : D → D → ℤ → List 
   pub left : layer' ≡ layer_after layer (outcome_at layer TX now (length frame))
 
 -- the inner device had no frame, and the layer is as it was
-pub record FaultIdle {D : Type 0} (idle : D → D → Type 0) (inner inner' : D) (layer layer' : FaultLayer) : Type 0 where
+pub record FaultIdle {D : Type 0} (idle : D → D → Type 0) (inner inner' : D)
+    (layer layer' : FaultLayer) : Type 0 where
   pub none : idle inner inner'
   pub left : layer' ≡ layer

@@ -1,4 +1,5 @@
--- The fault rule: what a layer that disturbs a link makes of a frame. Each step takes the state that the step before left.
+-- The fault rule: what a layer that disturbs a link makes of a frame. Each step takes the state that the step
+-- before left.
 use Rattle.std.specs.Prelude.{ℕ, ◌-◌, ◌^◌, ◌%◌, ◌==◌, ◌&&◌, ◌||◌, nat_lt, ◌<◌, ⊤, Bool, List, Option, Some, None, ℤ, bit_xor, slice_index, slice_set, if◌then◌else◌}
 use Rattle.wire_base.specs.Xorshift.{next_word}
 use Rattle.net_wire.specs.Time.{micros_between}
@@ -25,8 +26,8 @@ hits word chance = nat_lt (word % 100) chance
 abbrev pub is_over : ℕ → ℕ → Bool
 is_over limit len = nat_lt 0 limit && nat_lt limit len
 
--- A frame that is corrupted has one bit flipped: its place is drawn, and then its bit. An empty one stays as it is, and
--- nothing more is drawn.
+-- A frame that is corrupted has one bit flipped: its place is drawn, and then its bit. An empty one stays as
+-- it is, and nothing more is drawn.
 unfoldable pub flipped : ℕ → FaultState → FaultOutcome
 flipped len state =
     if len == 0 then outcome Whole state
@@ -37,18 +38,24 @@ flipped len state =
 unfoldable pub corrupted : FaultSettings → ℕ → FaultState → FaultOutcome
 corrupted settings len state =
     let word = next_word state.word in
-    if hits word settings.corrupt_chance then flipped len (with_word state word) else outcome Whole (with_word state word)
+    if hits word settings.corrupt_chance then flipped len (with_word state word)
+    else outcome Whole (with_word state word)
 
 -- Both buckets are filled up to their rates where now is further from the last time than the interval.
 unfoldable pub refilled : FaultSettings → ℤ → FaultState → FaultState
 refilled settings now state =
     if nat_lt settings.bucket_interval (micros_between now state.refilled_at)
-    then record { word = state.word; refilled_at = now; tx_bucket = settings.max_tx_rate; rx_bucket = settings.max_rx_rate }
+    then record {
+      word = state.word;
+      refilled_at = now;
+      tx_bucket = settings.max_tx_rate;
+      rx_bucket = settings.max_rx_rate;
+    }
     else state
 
--- The step before the last one, one for each way: a rate of 0 passes all frames and touches no bucket. With another one
--- the buckets are refilled if it is time, and then a frame that passes takes one from its bucket, and an empty bucket
--- drops it.
+-- The step before the last one, one for each way: a rate of 0 passes all frames and touches no bucket. With
+-- another one the buckets are refilled if it is time, and then a frame that passes takes one from its bucket,
+-- and an empty bucket drops it.
 unfoldable pub taken_in : FaultSettings → ℕ → FaultState → FaultOutcome
 taken_in settings len state =
     if state.rx_bucket == 0 then outcome Dropped state
@@ -56,7 +63,8 @@ taken_in settings len state =
 
 unfoldable pub rated_in : FaultSettings → ℤ → ℕ → FaultState → FaultOutcome
 rated_in settings now len state =
-    if settings.max_rx_rate == 0 then corrupted settings len state else taken_in settings len (refilled settings now state)
+    if settings.max_rx_rate == 0 then corrupted settings len state
+    else taken_in settings len (refilled settings now state)
 
 unfoldable pub taken_out : FaultSettings → ℕ → FaultState → FaultOutcome
 taken_out settings len state =
@@ -65,7 +73,8 @@ taken_out settings len state =
 
 unfoldable pub rated_out : FaultSettings → ℤ → ℕ → FaultState → FaultOutcome
 rated_out settings now len state =
-    if settings.max_tx_rate == 0 then corrupted settings len state else taken_out settings len (refilled settings now state)
+    if settings.max_tx_rate == 0 then corrupted settings len state
+    else taken_out settings len (refilled settings now state)
 
 -- A received frame: one that is too long is dropped without a draw; then a draw may drop it, then the rate.
 unfoldable pub drawn_in : FaultSettings → ℤ → ℕ → FaultState → FaultOutcome

@@ -5,7 +5,8 @@ use Rattle.phy_layers.specs.declared.capabilities.Medium.{Medium}
 use Rattle.phy_layers.specs.declared.capabilities.DeviceCapabilities.{DeviceCapabilities}
 use Rattle.phy_layers.specs.declared.capabilities.PacketMeta.{PacketMeta}
 
--- the frames that wait and that were sent, the numbers of the calls that fail, the numbers of calls and faults so far
+-- the frames that wait and that were sent, the numbers of the calls that fail, the numbers of calls and
+-- faults so far
 pub record MemoryState : Type 0 where
   pub medium : Medium
   pub mtu : ℕ
@@ -25,11 +26,13 @@ fails_next device = list_any (λ number. number == counted device.calls) device.
 
 -- frames of the longest length are sent and received
 abbrev pub memory_capabilities : MemoryState → DeviceCapabilities
-memory_capabilities device = record { medium = device.medium; max_transmission_unit = device.mtu; max_receive = device.mtu }
+memory_capabilities device =
+    record { medium = device.medium; max_transmission_unit = device.mtu; max_receive = device.mtu }
 
 -- the device after a call that does not fail, with these frames
 abbrev pub after_call : MemoryState → List (List ℕ) → List (List ℕ) → MemoryState
-after_call device waiting sent = record device { waiting = waiting; sent = sent; calls = counted device.calls }
+after_call device waiting sent =
+    record device { waiting = waiting; sent = sent; calls = counted device.calls }
 
 -- the call does not fail; the frame was the first one that waited, and it alone is gone; its number is 0
 pub record MemoryGave (before after : MemoryState) (frame : List ℕ) (meta : PacketMeta) : Type 0 where

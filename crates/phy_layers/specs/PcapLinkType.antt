@@ -13,4 +13,5 @@ link_type_number (Unknown number) = number
 -- the link type of a number: a number that has a name is never unknown
 abbrev pub link_type_of : ℕ → PcapLinkType
 link_type_of number =
-    if number == 1 then Ethernet else if number == 101 then Ip else if number == 230 then Ieee802154WithoutFcs else Unknown number
+    if number == 1 then Ethernet else if number == 101 then Ip else if number == 230 then Ieee802154WithoutFcs
+    else Unknown number

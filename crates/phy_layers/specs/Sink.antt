@@ -5,8 +5,9 @@ use Rattle.wire_base.specs.Causes.{IsRisen, AppendsFront}
 use Rattle.phy_layers.specs.declared.byte_sink.SinkError.{SinkError}
 use Rattle.phy_layers.specs.declared.byte_sink.SinkError.TheVariants.{Fault, NoMemory}
 
--- Bytes were handed to a sink by one call or by several: it took all of them, or it refused and took a front of them.
--- `bytes` are the bytes that a sink has taken, where it tells them, and `faults` is its count of faults.
+-- Bytes were handed to a sink by one call or by several: it took all of them, or it refused and took a front
+-- of them. `bytes` are the bytes that a sink has taken, where it tells them, and `faults` is its count of
+-- faults.
 pub record Took {S : Type 0} (bytes : S → Option (List ℕ)) (faults : S → ℕ) (grows : Bool)
     (result : Result (Unit {0}) SinkError) (handed : List ℕ) (old new : S) : Type 0 where
   pub whole : OnOk result (Appends (bytes old) (bytes new) handed)

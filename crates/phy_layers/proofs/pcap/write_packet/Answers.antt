@@ -13,12 +13,15 @@ returns-in_err-write_record_header g c =
 pub returns-in_err-write : goal.returns-in_err-write
 unfolding packet_record
 returns-in_err-write g c =
-    let refused = err_from_is_err_and c.from_residual-in_err-write.result c.from_residual-in_err-write.ensures.1 in
-    rw (refused.1, refused.2, ← c.captured.ensures) (took_then c.in_ok-write_record_header.ensures c.in_err-write.ensures.took)
+    let refused = err_from_is_err_and c.from_residual-in_err-write.result
+    c.from_residual-in_err-write.ensures.1 in
+    rw (refused.1, refused.2, ← c.captured.ensures)
+    (took_then c.in_ok-write_record_header.ensures c.in_err-write.ensures.took)
 
 -- The flush appends nothing.
 pub returns : goal.returns
 unfolding packet_record
 returns g c =
-    let whole = took_then (took_then c.in_ok-write_record_header.ensures c.in_ok-write.ensures.took) c.flush.ensures.took in
+    let whole = took_then (took_then c.in_ok-write_record_header.ensures c.in_ok-write.ensures.took)
+    c.flush.ensures.took in
     rw (← c.captured.ensures) (rw append-nil at whole)
