@@ -5,3 +5,4 @@ pub mod ChainLemmas
 pub mod ResponseLemmas
 pub mod WalkLemmas
 pub mod UndecidedLemmas
+pub mod RepeatedLemmas

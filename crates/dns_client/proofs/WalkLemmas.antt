@@ -15,7 +15,7 @@ use Rattle.dns_client.specs.Response.{failed}
 use Rattle.dns_client.specs.Slots.{Slots}
 use Rattle.dns_client.specs.Waiting.{RequestValue}
 
-behind-behind : (front middle : Slots) (w : Walk) → behind front (behind middle w) ≡ behind (front ++ middle) w
+pub behind-behind : (front middle : Slots) (w : Walk) → behind front (behind middle w) ≡ behind (front ++ middle) w
 behind-behind front middle (Quiet slots) = ap Quiet (sym (append_assoc front middle slots))
 behind-behind front middle (Sends passed slot request from to before after rest) =
     ap (λ f. Sends f slot request from to before after rest) (sym (append_assoc front middle passed))

@@ -12,3 +12,5 @@ pub mod Emit
 pub mod Looks
 pub mod LookRead
 pub mod Client
+pub mod Repeated
+pub mod Sends
