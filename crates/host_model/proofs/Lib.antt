@@ -4,3 +4,4 @@ pub mod PartLemmas
 pub mod ScriptLemmas
 pub mod SinceLemmas
 pub mod SomeLemmas
+pub mod TickLemmas

@@ -1,20 +1,9 @@
 -- Where a part is refused, or bytes end inside an event, no next event begins.
-use Rattle.std.proofs.Common.{◌≡◌, ℕ, ◌^◌, ◌<◌, ◌≤◌, ⊎_elim, List, [], ◌∷◌, ◌++◌, length, get_or, take, drop, ap, sym, ◌∙◌, arith, append_assoc, length-append}
-use Rattle.std.specs.Int.{to_be_bytes, from_be_bytes, w64}
-use Rattle.std.proofs.lemmas.Nat.{from_be_bytes-to_be_bytes_8}
-use Rattle.host_model.specs.Script.{Arrival, Event, kind_byte, head_bytes, Spells, time_limit, BeginsNoEvent}
+use Rattle.std.proofs.Common.{◌≡◌, ℕ, ◌^◌, ◌<◌, ◌≤◌, ⊎_elim, List, [], ◌∷◌, ◌++◌, length, get_or, ap, sym, ◌∙◌, arith, append_assoc, length-append}
+use Rattle.host_model.specs.Script.{Event, kind_byte, head_bytes, Spells, time_limit, BeginsNoEvent}
 use Rattle.host_model.specs.Parts.{IsInTime, IsInside, IsWrongKind, IsWrongTime, IsRefused}
 use Rattle.host_model.proofs.ClassLemmas.{some_bytes}
-
--- the kind and the time of bytes that begin with heads
-pub same_kind : (a b : Arrival) (s t : ℕ) (xs ys : List ℕ) → head_bytes a s ++ xs ≡ head_bytes b t ++ ys → kind_byte a ≡ kind_byte b
-same_kind a b s t xs ys h = ap (λ l. get_or l 0 0) h
-
-pub same_time : (a b : Arrival) (s t : ℕ) (xs ys : List ℕ) → s < 2 ^ 64 → t < 2 ^ 64 → head_bytes a s ++ xs ≡ head_bytes b t ++ ys → s ≡ t
-same_time a b s t xs ys fits_s fits_t h =
-    let numbers : from_be_bytes w64 (to_be_bytes w64 s) ≡ from_be_bytes w64 (to_be_bytes w64 t) =
-    ap (λ l. from_be_bytes w64 (take 8 (drop 1 l))) h in
-    sym (from_be_bytes-to_be_bytes_8 s fits_s) ∙ numbers ∙ from_be_bytes-to_be_bytes_8 t fits_t
+use Rattle.host_model.proofs.ScriptLemmas.{same_time}
 
 -- an event that begins bytes has its head there
 pub head_of : (event : Event) (front rest bytes : List ℕ) (spelled : Spells event front) → bytes ≡ front ++ rest

@@ -1,8 +1,8 @@
 -- Bytes begin with one event at most: so the events of a list of bytes are determined one by one.
-use Rattle.std.proofs.Common.{◌≡◌, ℕ, ◌^◌, ◌<◌, ◌⊎◌, inl, inr, ⊎_elim, List, [], ◌∷◌, ◌++◌, take, drop, ap, sym, subst, ◌∙◌, refl, arith, append_assoc}
+use Rattle.std.proofs.Common.{◌≡◌, ℕ, ◌^◌, ◌<◌, ◌⊎◌, inl, inr, ⊎_elim, List, [], ◌∷◌, ◌++◌, get_or, take, drop, ap, sym, subst, ◌∙◌, refl, arith, append_assoc}
 use Rattle.std.specs.Int.{to_be_bytes, from_be_bytes, w64}
 use Rattle.std.proofs.lemmas.Nat.{from_be_bytes-to_be_bytes_8}
-use Rattle.host_model.specs.Script.{Arrival, Tick, Event, SpellsArrival, head_bytes, Spells, SpellsAll, time_limit, IsNext, AreInOrder, last_time}
+use Rattle.host_model.specs.Script.{Arrival, Tick, Reset, Event, SpellsArrival, kind_byte, head_bytes, Spells, SpellsAll, time_limit, IsNext, AreInOrder, last_time}
 
 -- the parts of two events that begin one list
 pub record SameFront (s t : ℕ) (a b : Arrival) (xs ys : List ℕ) : Type 0 where
@@ -10,16 +10,29 @@ pub record SameFront (s t : ℕ) (a b : Arrival) (xs ys : List ℕ) : Type 0 whe
   pub arrival : a ≡ b
   pub rest : xs ≡ ys
 
-pub same_front : (s t : ℕ) (a b : Arrival) (r q xs ys : List ℕ) → s < 2 ^ 64 → t < 2 ^ 64 → SpellsArrival a r → SpellsArrival b q
-    → (head_bytes a s ++ r) ++ xs ≡ (head_bytes b t ++ q) ++ ys → SameFront s t a b xs ys
-same_front s t Tick Tick r q xs ys fits_s fits_t none nothing h =
+-- bytes that begin with two heads: the kind and the time
+pub same_kind : (a b : Arrival) (s t : ℕ) (xs ys : List ℕ) → head_bytes a s ++ xs ≡ head_bytes b t ++ ys → kind_byte a ≡ kind_byte b
+same_kind a b s t xs ys h = ap (λ l. get_or l 0 0) h
+
+pub same_time : (a b : Arrival) (s t : ℕ) (xs ys : List ℕ) → s < 2 ^ 64 → t < 2 ^ 64 → head_bytes a s ++ xs ≡ head_bytes b t ++ ys → s ≡ t
+same_time a b s t xs ys fits_s fits_t h =
     let numbers : from_be_bytes w64 (to_be_bytes w64 s) ≡ from_be_bytes w64 (to_be_bytes w64 t) =
     ap (λ l. from_be_bytes w64 (take 8 (drop 1 l))) h in
-    record {
-      time = sym (from_be_bytes-to_be_bytes_8 s fits_s) ∙ numbers ∙ from_be_bytes-to_be_bytes_8 t fits_t;
-      arrival = refl;
-      rest = ap (λ l. l ++ xs) (sym none) ∙ ap (drop 9) h ∙ ap (λ l. l ++ ys) nothing;
-    }
+    sym (from_be_bytes-to_be_bytes_8 s fits_s) ∙ numbers ∙ from_be_bytes-to_be_bytes_8 t fits_t
+
+-- what two events of one kind bring, where it stands in front of the same bytes
+by_arrival : (a b : Arrival) (r q xs ys : List ℕ) → kind_byte a ≡ kind_byte b → SpellsArrival a r → SpellsArrival b q → r ++ xs ≡ q ++ ys
+    → (a ≡ b) × (xs ≡ ys)
+by_arrival Tick Tick r q xs ys kinds none nothing h = (refl, ap (λ l. l ++ xs) (sym none) ∙ h ∙ ap (λ l. l ++ ys) nothing)
+by_arrival Tick Reset r q xs ys kinds none nothing h = absurd (omega (arith, kinds))
+by_arrival Reset Tick r q xs ys kinds none nothing h = absurd (omega (arith, kinds))
+by_arrival Reset Reset r q xs ys kinds none nothing h = (refl, ap (λ l. l ++ xs) (sym none) ∙ h ∙ ap (λ l. l ++ ys) nothing)
+
+pub same_front : (s t : ℕ) (a b : Arrival) (r q xs ys : List ℕ) → s < 2 ^ 64 → t < 2 ^ 64 → SpellsArrival a r → SpellsArrival b q
+    → (head_bytes a s ++ r) ++ xs ≡ (head_bytes b t ++ q) ++ ys → SameFront s t a b xs ys
+same_front s t a b r q xs ys fits_s fits_t spelled spelled_too h =
+    let brought = by_arrival a b r q xs ys (same_kind a b s t (r ++ xs) (q ++ ys) h) spelled spelled_too (ap (drop 9) h) in
+    record { time = same_time a b s t (r ++ xs) (q ++ ys) fits_s fits_t h; arrival = brought.0; rest = brought.1 }
 
 -- an event of these parts
 abbrev event_of : ℕ → Arrival → Event

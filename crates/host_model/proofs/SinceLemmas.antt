@@ -1,6 +1,6 @@
 -- The messages since a place.
-use Rattle.std.proofs.Common.{◌≡◌, ℕ, suc, ◌-◌, ◌≤◌, List, [], ◌∷◌, length, take, ap, ◌∙◌, refl, arith}
-use Rattle.host_model.specs.History.{Entry, entries_from, sent_times, times_since, with_time}
+use Rattle.std.proofs.Common.{◌≡◌, ℕ, suc, ◌-◌, ◌≤◌, List, [], ◌∷◌, length, take, ap, arith}
+use Rattle.host_model.specs.History.{Entry, sent_times, times_since, with_time}
 
 -- none was sent since what comes next
 pub none_since : (before : List Entry) → times_since (length before) before ≡ []

@@ -1,11 +1,11 @@
 -- Bytes are in one of the classes: events are read off as long as there are some.
-use Rattle.std.proofs.Common.{◌≡◌, ℕ, zero, suc, ◌^◌, ◌<◌, ◌≤◌, ◌⊎◌, inl, inr, ⊎_elim, Bool, true, false, nat_eq, List, [], ◌∷◌, ◌++◌, length, take, drop, ap, sym, subst, ◌∙◌, refl, arith, append_assoc, take-append-drop, append-nil, leb}
-use Rattle.std.specs.Int.{from_be_bytes, w64}
+use Rattle.std.proofs.Common.{◌≡◌, ℕ, zero, suc, ◌^◌, ◌<◌, ◌≤◌, ◌⊎◌, inl, inr, ⊎_elim, Bool, true, false, nat_eq, List, [], ◌∷◌, ◌++◌, length, get_or, take, drop, ap, sym, subst, ◌∙◌, refl, arith, append_assoc, take-append-drop, append-nil, leb}
+use Rattle.std.specs.Int.{from_be_bytes, to_be_bytes, w64}
 use Rattle.std.specs.Cmp.Lexicographic.{pointwise}
 use Rattle.std.proofs.lemmas.Slice.Eq.{slice_eq-Decides}
 use Rattle.std.proofs.lemmas.Bool.Decides.{Decides-eqb, leb_tells, not_from_Decides}
 use Rattle.std.proofs.lemmas.Nat.{from_be_bytes-to_be_bytes_8}
-use Rattle.host_model.specs.Script.{Arrival, Tick, Event, head_bytes, Spells, SpellsAll, IsNext, AreInOrder, last_time, time_limit, BeginsNoEvent}
+use Rattle.host_model.specs.Script.{Arrival, Tick, Reset, Event, kind_byte, head_bytes, SpellsArrival, IsArrival, Spells, SpellsAll, IsNext, AreInOrder, last_time, time_limit, BeginsNoEvent}
 use Rattle.host_model.specs.Classes.{IsValidScript, BeginsWith, IsOverLimit, IsBrokenAt}
 use Rattle.host_model.proofs.PartLemmas.{head_of}
 
@@ -22,15 +22,31 @@ pub record Found (last : ℕ) (bytes : List ℕ) : Type 0 where
 abbrev time_of : List ℕ → ℕ
 time_of bytes = from_be_bytes w64 (take 8 (drop 1 bytes))
 
--- the head of an event that begins bytes, by the time that stands there
-head_there : (arrival : Arrival) (at : ℕ) (more bytes : List ℕ) → at < 2 ^ 64 → bytes ≡ head_bytes arrival at ++ more
-    → (at ≡ time_of bytes) × (take 9 bytes ≡ head_bytes Tick (time_of bytes))
-head_there Tick at more bytes fits is =
-    let number : at ≡ time_of bytes = sym (ap time_of is ∙ from_be_bytes-to_be_bytes_8 at fits) in
-    (number, ap (take 9) is ∙ ap (head_bytes Tick) number)
+-- the byte where a kind stands
+abbrev kind_of : List ℕ → ℕ
+kind_of bytes = get_or bytes 0 0
 
-abbrev tick_at : ℕ → Event
-tick_at at = record { at = at; arrival = Tick }
+-- the head of a kind and a time
+abbrev head_with : ℕ → ℕ → List ℕ
+head_with kind at = kind ∷ [] ++ to_be_bytes w64 at
+
+-- the head of an event that begins bytes, by the kind and the time that stand there
+record HeadThere (arrival : Arrival) (at : ℕ) (bytes : List ℕ) : Type 0 where
+  kind : kind_byte arrival ≡ kind_of bytes
+  time : at ≡ time_of bytes
+  whole : take 9 bytes ≡ head_with (kind_of bytes) (time_of bytes)
+
+head_there : (arrival : Arrival) (at : ℕ) (more bytes : List ℕ) → at < 2 ^ 64 → bytes ≡ head_bytes arrival at ++ more → HeadThere arrival at bytes
+head_there arrival at more bytes fits is =
+    let kind : kind_byte arrival ≡ kind_of bytes = sym (ap kind_of is) in
+    let number : at ≡ time_of bytes = sym (ap time_of is ∙ from_be_bytes-to_be_bytes_8 at fits) in
+    record { kind = kind; time = number; whole = ap (take 9) is ∙ ap (λ k. head_with k at) kind ∙ ap (head_with (kind_of bytes)) number }
+
+-- that of an event which begins them
+head_in : (event : Event) (front rest bytes : List ℕ) → event.at < time_limit → Spells event front → bytes ≡ front ++ rest
+    → HeadThere event.arrival event.at bytes
+head_in event front rest bytes in_range spelled whole =
+    head_there event.arrival event.at (spelled.rest ++ rest) bytes (omega (arith, in_range)) (head_of event front rest bytes spelled whole)
 
 by_test : {P : Type 0} (b : Bool) → (b ≡ true → P) → (b ≡ false → P) → P
 by_test true so not_so = so refl
@@ -48,38 +64,67 @@ in_order_or_not last at =
     (λ (early : (leb last at ≡ false) × (at < last)). inr (inl early.1))
     (leb_tells last at)
 
--- a tick whose time is in order
-found_tick : (last : ℕ) (bytes : List ℕ) → take 9 bytes ≡ head_bytes Tick (time_of bytes) → last ≤ time_of bytes → time_of bytes < time_limit
-    → Found last bytes
-found_tick last bytes is not_before in_range = record {
-  event = tick_at (time_of bytes);
+-- where no head stands, or one out of order, no event does
+out_of_order : (last : ℕ) (bytes : List ℕ) → (time_of bytes < last) ⊎ (time_limit ≤ time_of bytes) → BeginsNoEvent last bytes
+out_of_order last bytes wrong = λ event front rest next spelled whole.
+    let there = head_in event front rest bytes next.in_range spelled whole in
+    ⊎_elim (λ (early : time_of bytes < last). omega (arith, early, there.time, next.not_before))
+    (λ (late : time_limit ≤ time_of bytes). omega (arith, late, there.time, next.in_range)) wrong
+
+no_head : (last : ℕ) (bytes : List ℕ) → (take 9 bytes ≡ head_with (kind_of bytes) (time_of bytes) → ⊥) → BeginsNoEvent last bytes
+no_head last bytes differs = λ event front rest next spelled whole. differs (head_in event front rest bytes next.in_range spelled whole).whole
+
+-- bytes that begin with a head that is in order
+record Headed (last : ℕ) (bytes : List ℕ) : Type 0 where
+  whole : take 9 bytes ≡ head_with (kind_of bytes) (time_of bytes)
+  not_before : last ≤ time_of bytes
+  in_range : time_of bytes < time_limit
+
+-- the event of a kind that has no rest
+found_bare : (last : ℕ) (bytes : List ℕ) (arrival : Arrival) → Headed last bytes → kind_of bytes ≡ kind_byte arrival → IsArrival arrival
+    → SpellsArrival arrival [] → Found last bytes
+found_bare last bytes arrival head kind may bare = record {
+  event = record { at = time_of bytes; arrival = arrival };
   front = take 9 bytes;
   rest = drop 9 bytes;
-  next = record { not_before = not_before; in_range = in_range; arrival = tt };
-  spelled = record { rest = []; brings = refl; whole = is ∙ sym (append-nil (head_bytes Tick (time_of bytes))) };
+  next = record { not_before = head.not_before; in_range = head.in_range; arrival = may };
+  spelled = record {
+    rest = [];
+    brings = bare;
+    whole = head.whole ∙ ap (λ k. head_with k (time_of bytes)) kind ∙ sym (append-nil (head_bytes arrival (time_of bytes)));
+  };
   whole = sym (take-append-drop 9 bytes);
 }
 
--- and where no tick stands, or out of order, no event does
-out_of_order : (last : ℕ) (bytes : List ℕ) → (time_of bytes < last) ⊎ (time_limit ≤ time_of bytes) → BeginsNoEvent last bytes
-out_of_order last bytes wrong = λ event front rest next spelled whole.
-    let there = head_there event.arrival event.at (spelled.rest ++ rest) bytes (omega (arith, next.in_range)) (head_of event front rest bytes spelled whole) in
-    ⊎_elim (λ (early : time_of bytes < last). omega (arith, early, there.0, next.not_before))
-    (λ (late : time_limit ≤ time_of bytes). omega (arith, late, there.0, next.in_range)) wrong
+-- a byte that names no kind
+is_unknown : (kind : ℕ) → (kind ≡ 2 → ⊥) → (kind ≡ 4 → ⊥) → (arrival : Arrival) → kind_byte arrival ≡ kind → ⊥
+is_unknown kind no_tick no_reset Tick is = no_tick (sym is)
+is_unknown kind no_tick no_reset Reset is = no_reset (sym is)
 
-no_head : (last : ℕ) (bytes : List ℕ) → (take 9 bytes ≡ head_bytes Tick (time_of bytes) → ⊥) → BeginsNoEvent last bytes
-no_head last bytes differs = λ event front rest next spelled whole.
-    differs (head_there event.arrival event.at (spelled.rest ++ rest) bytes (omega (arith, next.in_range)) (head_of event front rest bytes spelled whole)).1
+-- a number is another one, or not
+same_or_not : (a b : ℕ) → (a ≡ b) ⊎ (a ≡ b → ⊥)
+same_or_not a b = by_test (nat_eq a b) (λ same. inl ((Decides-eqb a b).0 same)) (λ differs. inr (not_from_Decides (nat_eq a b) (Decides-eqb a b) differs))
+
+found_headed : (last : ℕ) (bytes : List ℕ) → Headed last bytes → Found last bytes ⊎ BeginsNoEvent last bytes
+found_headed last bytes head =
+    ⊎_elim (λ (tick : kind_of bytes ≡ 2). inl (found_bare last bytes Tick head tick tt refl))
+    (λ (no_tick : kind_of bytes ≡ 2 → ⊥).
+    ⊎_elim (λ (reset : kind_of bytes ≡ 4). inl (found_bare last bytes Reset head reset tt refl))
+    (λ (no_reset : kind_of bytes ≡ 4 → ⊥). inr (λ event front rest next spelled whole.
+    is_unknown (kind_of bytes) no_tick no_reset event.arrival (head_in event front rest bytes next.in_range spelled whole).kind))
+    (same_or_not (kind_of bytes) 4))
+    (same_or_not (kind_of bytes) 2)
 
 pub found_or_not : (last : ℕ) (bytes : List ℕ) → Found last bytes ⊎ BeginsNoEvent last bytes
 found_or_not last bytes =
-    let test = pointwise nat_eq (take 9 bytes) (head_bytes Tick (time_of bytes)) in
-    let decides = slice_eq-Decides Decides-eqb (take 9 bytes) (head_bytes Tick (time_of bytes)) test refl in
+    let test = pointwise nat_eq (take 9 bytes) (head_with (kind_of bytes) (time_of bytes)) in
+    let decides = slice_eq-Decides Decides-eqb (take 9 bytes) (head_with (kind_of bytes) (time_of bytes)) test refl in
     let P : Type 0 = Found last bytes ⊎ BeginsNoEvent last bytes in
     by_test {P = P} test
     (λ same.
     ⊎_elim
-    (λ (ordered : (last ≤ time_of bytes) × (time_of bytes < time_limit)). inl (found_tick last bytes (decides.0 same) ordered.0 ordered.1))
+    (λ (ordered : (last ≤ time_of bytes) × (time_of bytes < time_limit)).
+    found_headed last bytes (record { whole = decides.0 same; not_before = ordered.0; in_range = ordered.1 }))
     (λ (wrong : (time_of bytes < last) ⊎ (time_limit ≤ time_of bytes)). inr (out_of_order last bytes wrong))
     (in_order_or_not last (time_of bytes)))
     (λ differs. inr (no_head last bytes (not_from_Decides test decides differs)))

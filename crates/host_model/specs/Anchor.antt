@@ -1,7 +1,7 @@
 -- The anchor: the event that the DHCP client goes by (RFC 2131, section 4.4 and figure 5).
 use Rattle.std.specs.Prelude.{ℕ, Bool, false, List, [], ◌∷◌, length, if◌then◌else◌}
 use Rattle.dhcp_client.specs.declared.retry.RetryConfig.{RetryConfig}
-use Rattle.host_model.specs.Script.{Arrival, Tick, Event}
+use Rattle.host_model.specs.Script.{Arrival, Tick, Reset, Event}
 use Rattle.host_model.specs.Settings.{Settings}
 use Rattle.host_model.specs.History.{Entry, times_since}
 use Rattle.host_model.specs.Due.{loss_due}
@@ -21,9 +21,10 @@ due_under retry sent (Loss place) = loss_due retry sent
 abbrev pub is_over : RetryConfig → List ℕ → ℕ → Anchor → Bool
 is_over retry sent at (Loss place) = false
 
--- what an arrival makes of the anchor: a tick leaves it
-abbrev pub anchor_after_arrival : Arrival → Anchor → Anchor
-anchor_after_arrival Tick anchor = anchor
+-- What an arrival at a place makes of the anchor: a tick leaves it, and from a reset on the client has no lease.
+abbrev pub anchor_after_arrival : ℕ → Arrival → Anchor → Anchor
+anchor_after_arrival here Tick anchor = anchor
+anchor_after_arrival here Reset anchor = Loss here
 
 -- what the time of an event makes of the anchor
 abbrev pub anchor_after_time : Settings → List Entry → ℕ → Anchor → Anchor
@@ -32,7 +33,7 @@ anchor_after_time settings before at anchor =
 
 abbrev pub anchor_after : Settings → List Entry → Event → Anchor → Anchor
 anchor_after settings before event anchor =
-    anchor_after_time settings before event.at (anchor_after_arrival event.arrival anchor)
+    anchor_after_time settings before event.at (anchor_after_arrival (length before) event.arrival anchor)
 
 -- the anchor after the events so far
 abbrev pub anchor_before : Settings → List Entry → Anchor

@@ -2,6 +2,7 @@ pub mod Anchor
 pub mod Chronicle
 pub mod Classes
 pub mod Due
+pub mod Examples
 pub mod History
 pub mod Lease
 pub mod Named
@@ -9,3 +10,4 @@ pub mod Neighbor
 pub mod Parts
 pub mod Script
 pub mod Settings
+pub mod TickScripts

@@ -1,5 +1,5 @@
 -- The DHCP message that an event names (RFC 2131, section 4.4.1 and table 5).
-use Rattle.std.specs.Prelude.{ℕ, Option, Some, None, List, nat_lt, if◌then◌else◌}
+use Rattle.std.specs.Prelude.{Option, Some, None, List, nat_lt, if◌then◌else◌}
 use Rattle.dhcp_client.specs.Messages.{discover_message, unspecified, limited_broadcast}
 use Rattle.host_model.specs.declared.words.EventWords.{EventWords}
 use Rattle.host_model.specs.Script.{Event}

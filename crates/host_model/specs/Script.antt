@@ -2,9 +2,10 @@
 use Rattle.std.specs.Prelude.{◌≡◌, ℕ, ◌*◌, ◌^◌, ◌<◌, ◌≤◌, List, [], ◌∷◌, ◌++◌, ⊤}
 use Rattle.std.specs.Int.{to_be_bytes, w64}
 
--- what an event brings
+-- what an event brings: nothing but its time, or a reset of the DHCP client
 pub data Arrival : Type 0 where
   Tick : Arrival
+  Reset : Arrival
 
 -- an event: its time in microseconds, and what it brings
 pub record Event : Type 0 where
@@ -14,14 +15,17 @@ pub record Event : Type 0 where
 -- the byte that names the kind
 abbrev pub kind_byte : Arrival → ℕ
 kind_byte Tick = 2
+kind_byte Reset = 4
 
 -- the bytes behind the time spell what the event brings
 abbrev pub SpellsArrival : Arrival → List ℕ → Type 0
 SpellsArrival Tick rest = rest ≡ []
+SpellsArrival Reset rest = rest ≡ []
 
 -- what can be spelled: lengths and texts in their ranges
 abbrev pub IsArrival : Arrival → Type 0
 IsArrival Tick = ⊤
+IsArrival Reset = ⊤
 
 -- the kind and the time
 abbrev pub head_bytes : Arrival → ℕ → List ℕ

@@ -2,8 +2,10 @@
 ghost use Rattle.std.specs.Prelude.{◌≡◌, pos, replicate};
 ghost use Rattle.host_model.specs.Chronicle.{GrowsByEntry};
 ghost use Rattle.host_model.specs.Classes.{IsOneOfThree};
+ghost use Rattle.host_model.specs.Examples.{SendsAtReset, SendsAtEachReset, SendsEveryTimeout};
 ghost use Rattle.host_model.specs.Parts.{NoEventIsRefused};
 ghost use Rattle.host_model.specs.Script.{BeginsWithOne};
+ghost use Rattle.host_model.specs.TickScripts.{TicksAreScripts};
 
 use net_wire::{EthernetAddress, Instant, Ipv4Address};
 
@@ -20,6 +22,18 @@ pub fn begins_with_one()
 /// Bytes whose parts are refused, or that end inside an event, begin no event.
 pub fn no_event_is_refused()
     ensures { NoEventIsRefused }
+{}
+
+/// A list of ticks is a script of them and of nothing else, whatever other events there are.
+pub fn ticks_are_scripts()
+    ensures { TicksAreScripts }
+{}
+
+/// After a reset the client has sent nothing: its message is due at once, and the timeout counts from that.
+pub fn resets_send_at_once()
+    ensures at_reset { SendsAtReset }
+    ensures at_each { SendsAtEachReset }
+    ensures without { SendsEveryTimeout }
 {}
 
 /// What is sent in an event is found from the entries before it: no later event changes it.

@@ -7,7 +7,7 @@ use Rattle.net_wire.specs.declared.address.Ipv4Cidr.{Ipv4Cidr}
 use Rattle.net_host.specs.declared.report.Row.{Row}
 use Rattle.net_host.specs.declared.report.Sent.{Sent}
 use Rattle.net_host.specs.declared.report.Kind.{Kind}
-use Rattle.net_host.specs.declared.report.Kind.TheVariants.{Tick}
+use Rattle.net_host.specs.declared.report.Kind.TheVariants.{Tick, Reset}
 use Rattle.net_host.specs.declared.report.Mark.{Mark}
 use Rattle.net_host.specs.declared.report.Mark.TheVariants.{Dhcp}
 use Rattle.phy_layers.specs.PcapBytes.{epoch_micros}
@@ -19,6 +19,7 @@ time_text micros = decimal (micros / 1000000) ++ codes "." ++ six_digits (micros
 
 abbrev pub kind_text : Kind → List ℕ
 kind_text Tick = codes "tick"
+kind_text Reset = codes "reset"
 
 -- the four numbers of an address, with points between them (RFC 1123, section 2.1)
 abbrev pub address_text : Ipv4Address → List ℕ

@@ -110,6 +110,7 @@ fn kind_word(kind: Kind) -> &'static [u8]
 {
     match kind {
         Kind::Tick => b"tick",
+        Kind::Reset => b"reset",
     }
 }
 

@@ -11,13 +11,13 @@ use Rattle.host_model.specs.Settings.{Settings}
 use Rattle.host_model.specs.History.{Entry, times_since}
 use Rattle.host_model.specs.Anchor.{Anchor, Loss, anchor_after_time, due_under, is_over, place_of}
 use Rattle.host_model.specs.Named.{message_under}
-use Rattle.host_model.proofs.SinceLemmas.{none_since}
 use Rattle.net_host.specs.declared.emitter.Emitter.{Emitter}
 use Rattle.net_host.specs.Agreement.{AgreesUnder, state_with}
 use Rattle.net_host.specs.Emitter.{TakesMessage, RefusesMessage}
 use Rattle.net_host.specs.Polling.{Polled, IsQuiet, GoesOn, Waits}
 use Rattle.net_host.proofs.PlannedLemmas.{PlansRestart, PlansMessage, PlansNothing, IsContextOf, IsFair, outgoing_for, poll_at_is}
 use Rattle.net_host.proofs.PollingLemmas.{pos_le, pos_lt}
+use Rattle.net_host.proofs.ArrivalLemmas.{anew}
 use Rattle.net_host.proofs.DueLemmas.{plans, due_is, kept}
 use Rattle.net_host.proofs.PolledLemmas.{took, refused, began_anew, ended}
 use Rattle.net_host.proofs.HistoryLemmas.{Answered, KnowsHops, answered_early, answered_refused, answered_sent}
@@ -78,16 +78,6 @@ settled settings before event words anchor cx client last out later fair is_cx i
     (λ (nothing : PlansNothing settings sent event.at anchor plan).
     absurd (omega (arith, nothing.early, pos_le (due_under settings.client.retry sent anchor) event.at (rw (← due, ← is_cx.now) on_time)))))
     (plans settings before event.at words anchor client cx fair is_cx in_range agrees)
-
--- a client that began anew goes by a loss here
-anew : (settings : Settings) (before : List Entry) (anchor : Anchor) (client : Client) → AgreesUnder settings before anchor client
-    → AgreesUnder settings before (Loss (length before)) (after_reset client)
-anew settings before anchor client agrees = record {
-  id = agrees.id;
-  state = sym (ap (λ times. state_with settings.client.retry times (Loss (length before))) (none_since before));
-  told = agrees.told;
-  placed = omega arith;
-}
 
 -- polling under an anchor that is over: it begins anew, and then goes on
 restarted : (settings : Settings) (before : List Entry) (event : Event) (words : EventWords) (anchor : Anchor) (cx : Context) (client last : Client) (out later : Emitter)

@@ -38,9 +38,10 @@ place_row at event words host_old host_new captured_old captured_new report_old 
   handles = handles;
 }
 
--- no frame arrives in a tick
-pub records_of_tick : (at : ℤ) (event : ScriptEvent) (row : Row) → event_records (event_at at event) row ≡ sent_records (epoch_micros at) row.sent
-records_of_tick at script.Tick row = refl
+-- no frame arrives so far
+pub records_of_sent : (at : ℤ) (event : ScriptEvent) (row : Row) → event_records (event_at at event) row ≡ sent_records (epoch_micros at) row.sent
+records_of_sent at script.Tick row = refl
+records_of_sent at script.Reset row = refl
 
 -- the row that an event placed is the row of its entry, and the host agrees with that
 pub record Placed (settings : Settings) (words : List ℕ) (before : List Entry) (event : Event) (row : Row) (host : Host) : Type 0 where

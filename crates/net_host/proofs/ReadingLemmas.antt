@@ -7,7 +7,7 @@ use Rattle.std.proofs.KnownBytes.{Consumes-trans}
 use Rattle.std.proofs.lemmas.Nat.{be_bytes_8}
 use Rattle.std.proofs.lemmas.List.{take-append-drop, drop-drop, take_at, length-take, take-append-le}
 use Rattle.std.proofs.Math.Seq.{take-append-add}
-use Rattle.host_model.specs.Script.{Arrival, Tick, kind_byte, head_bytes, time_limit, BeginsNoEvent}
+use Rattle.host_model.specs.Script.{Arrival, Tick, Reset, kind_byte, head_bytes, time_limit, BeginsNoEvent}
 use Rattle.host_model.specs.Parts.{IsInside, IsWrongKind, IsWrongTime, IsRefused}
 use Rattle.host_model.proofs.PartLemmas.{refused, cut_off}
 use Rattle.net_host.specs.declared.script.EventKind.{EventKind}
@@ -48,6 +48,7 @@ kind_and_time old mid new kind time value is_one is_value first second =
 -- the arrival of a kind that has no rest
 pub arrival_of : (kind : EventKind) → (arrival : Arrival) × (byte_of kind ≡ kind_byte arrival)
 arrival_of kind.Tick = (Tick, refl)
+arrival_of kind.Reset = (Reset, refl)
 
 -- no part, or a part of a time
 pub in_kind : (last : ℕ) (part : List ℕ) → length part < 1 → IsInside last part

@@ -5,6 +5,7 @@ pub mod Emitter
 pub mod EventReader
 pub mod Handling
 pub mod Head
+pub mod Hearing
 pub mod HostConfig
 pub mod Outside
 pub mod Polling

@@ -2,7 +2,7 @@
 use Rattle.std.specs.Prelude.{◌≡◌, ℕ, ◌<◌, ◌⊎◌, List, length, ℤ, pos, Option}
 use Rattle.std.specs.Io.KnownBytes.{Consumes, IsAtEnd}
 use Rattle.phy_layers.specs.PcapBytes.{epoch_micros}
-use Rattle.host_model.specs.Script.{Tick, Event, Spells, IsNext}
+use Rattle.host_model.specs.Script.{Arrival, Tick, Reset, Event, Spells, IsNext}
 use Rattle.host_model.specs.Parts.{IsInside, IsRefused}
 use Rattle.net_host.specs.declared.script.ScriptEvent.{ScriptEvent}
 use Rattle.net_host.specs.declared.script.ScriptEvent.TheVariants as script
@@ -10,9 +10,14 @@ use Rattle.net_host.specs.declared.script.ReadEventError.{ReadEventError}
 use Rattle.net_host.specs.declared.script.ReadEventError.TheVariants.{Script, Limit, Read}
 use Rattle.net_host.specs.ReaderState.{ReaderState, moved_by, through_with}
 
--- a time, and what a reader gives at it, as an event of the script
+-- what a reader gives, as what an event brings
+abbrev pub arrival_of : ScriptEvent → Arrival
+arrival_of script.Tick = Tick
+arrival_of script.Reset = Reset
+
+-- and at a time, as an event of the script
 abbrev pub event_at : ℤ → ScriptEvent → Event
-event_at at event = record { at = epoch_micros at; arrival = elim event [ script.Tick ↦ Tick ] }
+event_at at event = record { at = epoch_micros at; arrival = arrival_of event }
 
 -- The next event: it stood whole in front of what was left, and may come next.
 pub record GivesEvent (max : ℕ) (old new : ReaderState) (left_old left_new : Option (List ℕ))

@@ -2,7 +2,7 @@
 use Rattle.std.specs.Prelude.{◌≡◌, ℕ, List, [], ◌∷◌, Option, Some, None, pos}
 use Rattle.net_wire.specs.Datagram.{Datagram, IsSentFrame}
 use Rattle.net_wire.specs.DhcpBytes.{message_bytes}
-use Rattle.host_model.specs.Script.{Arrival, Tick, Event}
+use Rattle.host_model.specs.Script.{Arrival, Tick, Reset, Event}
 use Rattle.host_model.specs.Settings.{Settings}
 use Rattle.host_model.specs.History.{Entry, SentMessage, Transmission}
 use Rattle.host_model.specs.Anchor.{anchor_at}
@@ -18,6 +18,7 @@ use Rattle.net_host.specs.declared.report.Sent.{Sent}
 -- the kind of an event
 abbrev pub kind_of : Arrival → Kind
 kind_of Tick = kind.Tick
+kind_of Reset = kind.Reset
 
 -- the frames that are marked as those of the DHCP client
 abbrev pub with_dhcp : Mark → List ℕ → List (List ℕ) → List (List ℕ)

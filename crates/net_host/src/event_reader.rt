@@ -14,7 +14,7 @@ use net_wire::{Instant, NoMemory};
 use std::alloc::Global;
 use std::marker::Model;
 
-/// The most bytes behind the head of an event: a tick has none.
+/// The most bytes behind the head of an event: so far no event has any.
 const REST_LEN: usize = 0;
 
 /// Reads the events of one script, and knows where it is on it.
@@ -107,5 +107,6 @@ fn event_of(kind: EventKind) -> ScriptEvent
 {
     match kind {
         EventKind::Tick => ScriptEvent::Tick,
+        EventKind::Reset => ScriptEvent::Reset,
     }
 }

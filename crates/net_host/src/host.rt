@@ -3,7 +3,9 @@ ghost use Rattle.std.specs.Prelude.{◌≡◌, ℕ, ◌<◌, ◌^◌, List, ◌�
 ghost use Rattle.std.specs.List.{AllByRecursion};
 ghost use Rattle.dhcp_client.specs.Client.{Client};
 ghost use Rattle.net_wire.specs.declared.error.Context.{Context};
+ghost use Rattle.net_host.specs.Hearing.{after_arrival};
 ghost use Rattle.net_host.specs.Polling.{Polled, IsReady};
+ghost use Rattle.net_host.specs.Reading.{arrival_of};
 ghost use Rattle.phy_layers.specs.PcapBytes.{IsCapturable};
 
 use crate::emitter::Emitter;
@@ -69,9 +71,7 @@ impl<'a> Host<'a> {
         ensures within { IfOk result (λ handled. AreCapturable handled.sent) }
         ensures ready { IsReady self.new.dhcp self.new.ip_mtu }
     {
-        match event {
-            ScriptEvent::Tick => {}
-        }
+        hear(&mut self.dhcp, event);
         let cx = Context {
             now: at,
             hardware_addr: self.hardware,
@@ -87,6 +87,17 @@ impl<'a> Host<'a> {
             lease: self.lease,
             sent: out.sent,
         })
+    }
+}
+
+/// Tells the DHCP client what an event brings.
+fn hear(dhcp: &mut Socket<'_>, event: ScriptEvent)
+    ensures value { dhcp.new ≡ after_arrival (arrival_of event) dhcp.old }
+    ensures ready { (ip_mtu : ℕ) → IsReady dhcp.old ip_mtu → IsReady dhcp.new ip_mtu }
+{
+    match event {
+        ScriptEvent::Tick => {}
+        ScriptEvent::Reset => dhcp.reset(),
     }
 }
 

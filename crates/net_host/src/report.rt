@@ -13,6 +13,8 @@ use std::marker::Model;
 pub enum Kind {
     /// Time passed.
     Tick,
+    /// The DHCP client began anew.
+    Reset,
 }
 
 /// What a sent frame is for.

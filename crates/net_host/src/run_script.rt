@@ -104,6 +104,7 @@ fn kind_of(event: ScriptEvent) -> Kind
 {
     match event {
         ScriptEvent::Tick => Kind::Tick,
+        ScriptEvent::Reset => Kind::Reset,
     }
 }
 

@@ -16,6 +16,8 @@ use crate::{ReadFault, ScriptSource};
 pub enum ScriptEvent {
     /// Time passed.
     Tick,
+    /// The DHCP client begins anew, without a lease.
+    Reset,
 }
 
 /// Why the next event was not read.
@@ -44,6 +46,7 @@ impl From<ReadFault> for ReadEventError {
 #[derive(Clone, Copy, Debug, PartialEq, Eq)]
 pub(crate) enum EventKind {
     Tick,
+    Reset,
 }
 
 /// How many bytes stand in front of what an event brings.
@@ -82,6 +85,7 @@ fn kind_named(byte: u8) -> Option<EventKind>
 {
     match byte {
         2 => Some(EventKind::Tick),
+        4 => Some(EventKind::Reset),
         _ => None,
     }
 }

@@ -46,12 +46,26 @@ fn run_program(alloc: Global, words: &[&str], script: &[u8]) -> Result<Ran, Allo
     })
 }
 
+/// The bytes that name a tick and a reset.
+const TICK: u8 = 2;
+
+const RESET: u8 = 4;
+
+/// The script of events of these kinds at these times in microseconds.
+fn script_of(alloc: Global, events: &[(u8, u64)]) -> Result<Vec<u8>, AllocError> {
+    let mut script = Vec::new(alloc);
+    for (kind, micros) in events {
+        script.push(*kind)?;
+        script.extend_from_slice(&micros.to_be_bytes())?;
+    }
+    Ok(script)
+}
+
 /// The script of ticks at these times in microseconds.
 fn ticks(alloc: Global, times: &[u64]) -> Result<Vec<u8>, AllocError> {
     let mut script = Vec::new(alloc);
     for micros in times {
-        script.push(2)?;
-        script.extend_from_slice(&micros.to_be_bytes())?;
+        script.extend_from_slice(script_of(alloc, &[(TICK, *micros)])?.as_slice())?;
     }
     Ok(script)
 }
@@ -95,14 +109,64 @@ done
 }
 
 #[test]
+fn a_reset_sends_a_discover_at_once(rt: HostRuntime) -> Result<(), Fail> {
+    let alloc = rt.alloc();
+    let events = [
+        (TICK, 0),
+        (RESET, 1_000_000),
+        (TICK, 10_999_999),
+        (TICK, 11_000_000),
+    ];
+    let script = script_of(alloc, &events)?;
+    let ran = run_program(alloc, &["run", "020202020202", "1", "4"], script.as_slice())?;
+    assert_eq!(rt; ran.status, 0);
+    let text = b"0 0.000000 tick lease none
+  sent dhcp 304
+1 1.000000 reset lease none
+  sent dhcp 304
+2 10.999999 tick lease none
+3 11.000000 tick lease none
+  sent dhcp 304
+done
+";
+    assert_eq!(rt; ran.printed.as_slice(), text.as_slice());
+    // Ids and checksums by another implementation of the standards.
+    let mut capture = Vec::from_slice(alloc, FILE_HEADER)?;
+    for (secs, id, checksum) in [
+        (0, 0x0004_2021, 0x5855),
+        (1, 0x1255_994f, 0xccd5),
+        (11, 0xadd0_2374, 0xa735),
+    ] {
+        let frame = discover_frame(alloc, id, checksum)?;
+        capture.extend_from_slice(packet_record(alloc, secs, frame.as_slice())?.as_slice())?;
+    }
+    assert_eq!(rt; ran.captured.as_slice(), capture.as_slice());
+    Ok(())
+}
+
+#[test]
 fn scripts_that_stop_a_run(rt: HostRuntime) -> Result<(), Fail> {
     let alloc = rt.alloc();
     let mut long = ticks(alloc, &[0])?;
     long.push(2)?;
     let unsorted = ticks(alloc, &[1_000_000, 0])?;
-    let cases: [(&str, &[u8], u8, &[u8], usize); 3] = [
+    let cases: [(&str, &[u8], u8, &[u8], usize); 5] = [
         ("1", long.as_slice(), 3, b"event limit reached\n", 344),
         ("1", b"\x02\x00", 2, b"script error at 0\n", 24),
+        (
+            "1",
+            b"\x04\x00\x00\x00\x00\x00\x00\x00",
+            2,
+            b"script error at 0\n",
+            24,
+        ),
+        (
+            "1",
+            b"\x05\x00\x00\x00\x00\x00\x00\x00\x00",
+            2,
+            b"script error at 0\n",
+            24,
+        ),
         ("2", unsorted.as_slice(), 2, b"script error at 9\n", 344),
     ];
     for (max, script, status, line, captured) in cases {
@@ -148,22 +212,40 @@ fn words_that_are_refused(rt: HostRuntime) -> Result<(), Fail> {
 #[test]
 fn runs_are_those_of_the_plain_core(rt: HostRuntime) -> Result<(), Fail> {
     let alloc = rt.alloc();
-    let cases: [&[u64]; 4] = [
-        &[0],
-        &[0, 9_999_999, 10_000_000, 19_999_999, 20_000_001],
+    let cases: [&[(u8, u64)]; 4] = [
         &[
-            5_000_000, 5_000_000, 14_999_999, 15_000_000, 15_000_000, 40_000_000, 49_000_000,
+            (TICK, 0),
+            (TICK, 9_999_999),
+            (TICK, 10_000_000),
+            (TICK, 19_999_999),
+            (TICK, 20_000_001),
         ],
-        &[4_294_967_295_999_999],
+        &[
+            (TICK, 5_000_000),
+            (TICK, 5_000_000),
+            (TICK, 14_999_999),
+            (TICK, 15_000_000),
+            (TICK, 40_000_000),
+            (TICK, 49_000_000),
+        ],
+        &[
+            (RESET, 0),
+            (RESET, 0),
+            (TICK, 9_000_000),
+            (RESET, 9_500_000),
+            (TICK, 19_499_999),
+            (TICK, 19_500_000),
+        ],
+        &[(TICK, 4_294_967_295_999_999)],
     ];
-    for times in cases {
-        let script = ticks(alloc, times)?;
+    for events in cases {
+        let script = script_of(alloc, events)?;
         let ran = run_program(
             alloc,
             &["run", "020202020202", "1", "10"],
             script.as_slice(),
         )?;
-        let rows = rows_of(alloc, times, 1)?;
+        let rows = rows_of(alloc, events, 1)?;
         assert_eq!(rt; ran.status, 0);
         assert_eq!(rt;
             ran.printed.as_slice(),

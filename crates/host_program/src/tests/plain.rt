@@ -5,9 +5,13 @@ use std::alloc::{AllocError, Global};
 /// An event, and the id of the discover that is sent in it.
 #[derive(Drop)]
 pub struct PlainRow {
+    kind: u8,
     micros: u64,
     id: Option<u32>,
 }
+
+/// The byte that names a reset.
+const RESET: u8 = 4;
 
 /// The iterate of xorshift32 (Marsaglia 2003) after `count` ones more.
 fn iterate(seed: u32, count: usize) -> u32 {
@@ -25,17 +29,21 @@ fn is_waiting(rows: &[PlainRow], micros: u64) -> bool {
     rows.iter().any(|row| row.id.is_some() && row.micros.saturating_add(10_000_000) > micros)
 }
 
-/// The rows of ticks at these times.
-pub fn rows_of(alloc: Global, times: &[u64], seed: u32) -> Result<Vec<PlainRow>, AllocError> {
+/// The rows of events of these kinds at these times.
+pub fn rows_of(
+    alloc: Global,
+    events: &[(u8, u64)],
+    seed: u32,
+) -> Result<Vec<PlainRow>, AllocError> {
     let mut rows: Vec<PlainRow> = Vec::new(alloc);
-    for micros in times {
-        let micros = *micros;
-        let id = if is_waiting(rows.as_slice(), micros) {
+    for (kind, micros) in events {
+        let (kind, micros) = (*kind, *micros);
+        let id = if kind != RESET && is_waiting(rows.as_slice(), micros) {
             None
         } else {
             Some(iterate(seed, rows.len().saturating_mul(3).saturating_add(1)))
         };
-        rows.push(PlainRow { micros, id })?;
+        rows.push(PlainRow { kind, micros, id })?;
     }
     Ok(rows)
 }
@@ -112,8 +120,10 @@ pub fn text_of(alloc: Global, rows: &[PlainRow]) -> Result<Vec<u8>, AllocError> 
     for (number, row) in rows.iter().enumerate() {
         let secs = row.micros / 1_000_000;
         let micros = row.micros % 1_000_000;
-        let line = format!(in alloc; "{number} {secs}.{micros:06} tick lease none\n")?;
+        let line = format!(in alloc; "{number} {secs}.{micros:06} ")?;
         text.extend_from_slice(line.as_bytes())?;
+        text.extend_from_slice(if row.kind == RESET { b"reset" } else { b"tick" })?;
+        text.extend_from_slice(b" lease none\n")?;
         if row.id.is_some() {
             text.extend_from_slice(b"  sent dhcp 304\n")?;
         }

@@ -1,8 +1,10 @@
 -- Polling answers the event, for each history that the host agrees with.
-use Rattle.std.proofs.Common.{List, ap, subst, sym, refl, ◌∙◌, arith}
+use Rattle.std.proofs.Common.{List, length, ap, subst, sym, refl, ◌∙◌, arith}
+use Rattle.dhcp_client.specs.Client.{Client}
 use Rattle.dhcp_client.specs.Config.{ClientSettings}
-use Rattle.host_model.specs.Anchor.{anchor_before}
+use Rattle.host_model.specs.Anchor.{anchor_after_arrival, anchor_before}
 use Rattle.net_host.specs.declared.report.Sent.{Sent}
+use Rattle.net_host.specs.Agreement.{AgreesUnder}
 use Rattle.net_host.specs.Report.{AreCapturable}
 use Rattle.net_host.specs.Reading.{event_at}
 use Rattle.net_host.proofs.PollingLemmas.{instant_is, in_range}
@@ -16,13 +18,14 @@ returns-clause-value c = λ settings before can agrees.
     let polling = c.in_ok-poll_dhcp.ensures.value in
     let event = event_at c.args.at c.args.event in
     let anchor = anchor_before settings before in
+    let Q : Client → Type 0 = λ d. AgreesUnder settings before (anchor_after_arrival (length before) event.arrival anchor) d in
     let timeout = ap (λ (s : ClientSettings). s.retry.discover_timeout) can.defaults.client in
     let answer = answered settings before event c.args.words _ _ _ _ _ _
     (record { some = omega (arith, timeout); short = omega (arith, timeout) })
     (record { now = instant_is c.args.at c.requires.time; hardware = agrees.hardware; ip_mtu = agrees.ip_mtu })
     (in_range c.args.at c.requires.time)
     (record { hardware = agrees.hardware; empty = c.new.ensures; hops = λ destination. refl })
-    (heard settings before event.arrival anchor _ agrees.dhcp) polling in
+    (subst Q (sym c.hear.ensures.value) (heard settings before event.arrival anchor c.args.self.now.dhcp agrees.dhcp)) polling in
     let lease = agrees.lease ∙ lease_stays settings before event.at event.arrival anchor in
     record {
       agrees = record { hardware = agrees.hardware; ip_mtu = agrees.ip_mtu; lease = lease; dhcp = answer.agrees };
