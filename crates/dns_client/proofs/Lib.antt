@@ -1,8 +1,10 @@
 pub mod NameLemmas
 pub mod SlotLemmas
 pub mod AnswerLemmas
+pub mod FollowLemmas
 pub mod ChainLemmas
 pub mod ResponseLemmas
 pub mod WalkLemmas
 pub mod UndecidedLemmas
 pub mod RepeatedLemmas
+pub mod SendsLemmas

@@ -1,6 +1,6 @@
 -- What a look leaves, a second look at the same instant leaves too.
-use Rattle.std.proofs.Common.{◌≡◌, ℕ, ◌<◌, Bool, true, false, cond, List, [], ◌∷◌, ◌++◌, Option, Some, None, ℤ, pos, ◌<ℤ◌, refl, sym, ◌∙◌, ap, subst, arith, get_or, leb, nat_lt}
-use Rattle.std.specs.Prelude.{⊤, int_lt, slice_get, ◌-◌, ◌^◌, ◌+◌}
+use Rattle.std.proofs.Common.{◌≡◌, ℕ, ◌<◌, Bool, true, false, cond, List, [], ◌∷◌, ◌++◌, Option, Some, None, ℤ, ◌<ℤ◌, refl, ◌∙◌, ap, subst, arith}
+use Rattle.std.specs.Prelude.{⊤, int_lt, slice_get, ◌-◌, ◌+◌}
 use Rattle.std.specs.List.{All, AllByRecursion}
 use Rattle.std.proofs.lemmas.Bool.{cond-true, cond-false}
 use Rattle.std.proofs.lemmas.Int.{ints, clamps}
@@ -12,11 +12,11 @@ use Rattle.dns_client.specs.declared.query.DnsQuery.{DnsQuery}
 use Rattle.dns_client.specs.declared.query.QueryState.{QueryState}
 use Rattle.dns_client.specs.declared.query.QueryState.TheVariants.{Pending, Answered, Failed}
 use Rattle.dns_client.specs.declared.query.Turn.{Turn}
-use Rattle.dns_client.specs.Looks.{Choice, Pass, Keep, Fail, Ask, places, turned_by, turned, sent_to, choice_from, choice_at, choice_for, look, look_in, with_turn, Walk, Quiet, Sends, behind, walk_on, walk}
+use Rattle.dns_client.specs.Looks.{Choice, Pass, Keep, Fail, Ask, places, turned_by, turned, sent_to, choice_from, choice_at, look, look_in, with_turn, Walk, Quiet, Sends, behind, walk_on, walk}
 use Rattle.dns_client.specs.Repeated.{last_instant, IsTimed, IsTimedIn, IsRepeated}
 use Rattle.dns_client.specs.Response.{failed}
 use Rattle.dns_client.specs.Slots.{Slots}
-use Rattle.dns_client.specs.Waiting.{RequestValue, Waiting}
+use Rattle.dns_client.specs.Waiting.{RequestValue}
 use Rattle.dns_client.proofs.WalkLemmas.{behind-behind}
 
 pub not_past : (now : ℤ) (n : ℕ) → now <ℤ last_instant → int_lt (instant_after now n) now ≡ false
@@ -91,13 +91,14 @@ module _ (now : ℤ) (early : now <ℤ last_instant) where
       asks to None there known due from_is = tt
       asks to (Some from) there known due from_is =
           let turn : Turn = turned now first in
-          let after : Turn = sent_to to now turn in
-          (not_due servers request to after (still first after refl) there known
-          (in_future now turn.delay early (delayed_by first.timeout_at first some)),
-          λ more. ap (λ c. walk_on (waiting_slot request turn) c more (walk (look source servers now) more))
-          (ap (λ x. choice_at source request now x (slice_get (places servers request.mdns) x.place)) (still first turn refl)
-          ∙ ap (λ o. choice_at source request now turn o) there
-          ∙ cond-false _ _ _ known ∙ cond-false _ _ _ due ∙ ap (λ o. choice_from request now turn to o) from_is))
+          let after : Turn = sent_to to now turn in (
+            not_due servers request to after (still first after refl) there known
+                (in_future now turn.delay early (delayed_by first.timeout_at first some)),
+            λ more. ap (λ c. walk_on (waiting_slot request turn) c more (walk (look source servers now) more))
+                (ap (λ x. choice_at source request now x (slice_get (places servers request.mdns) x.place)) (still first turn refl)
+                ∙ ap (λ o. choice_at source request now turn o) there
+                ∙ cond-false _ _ _ known ∙ cond-false _ _ _ due ∙ ap (λ o. choice_from request now turn to o) from_is),
+          )
 
       by_tests : (to : IpAddress) (unknown waits : Bool) → slice_get (places servers request.mdns) (turned now first).place ≡ Some to
           → is_unspecified to ≡ unknown → int_lt now (turned now first).retransmit_at ≡ waits
@@ -134,10 +135,11 @@ module _ (now : ℤ) (early : now <ℤ last_instant) where
 
       behind_slot : (slot : Option DnsQuery) (w : Walk) → Stays servers slot → Again w → Again (behind (slot ∷ []) w)
       behind_slot slot (Quiet left) stays again = stays later left ∙ ap (behind (slot ∷ [])) again
-      behind_slot slot (Sends front asked request from to before after rest) stays again =
-          (stays later (front ++ with_turn after asked ∷ rest) ∙ ap (behind (slot ∷ [])) again.0
-          ∙ behind-behind (slot ∷ []) (front ++ with_turn after asked ∷ []) (walk (look later servers now) rest),
-          stays source (front ++ with_turn before asked ∷ rest) ∙ ap (behind (slot ∷ [])) again.1)
+      behind_slot slot (Sends front asked request from to before after rest) stays again = (
+        stays later (front ++ with_turn after asked ∷ rest) ∙ ap (behind (slot ∷ [])) again.0
+            ∙ behind-behind (slot ∷ []) (front ++ with_turn after asked ∷ []) (walk (look later servers now) rest),
+        stays source (front ++ with_turn before asked ∷ rest) ∙ ap (behind (slot ∷ [])) again.1,
+      )
 
       again_on : (slot : Option DnsQuery) (slots : Slots) (c : Choice) (w : Walk) → Settles source servers slot c → Again w
           → Again (walk_on slot c slots w)

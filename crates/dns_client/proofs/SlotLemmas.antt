@@ -1,5 +1,6 @@
 -- Slots one after another.
-use Rattle.std.proofs.Common.{◌≡◌, ℕ, ◌+◌, ◌<◌, ◌≤◌, [], ◌∷◌, ◌++◌, length, drop, get_or, set, Option, Some, None, refl, sym, ◌∙◌, ap, arith}
+use Rattle.std.proofs.Common.{◌≡◌, ◌≢◌, ℕ, zero, suc, ◌+◌, ◌<◌, ◌≤◌, [], ◌∷◌, ◌++◌, length, drop, get_or, set, Option, Some, None, refl, sym, ◌∙◌, ap, arith}
+use Rattle.std.specs.Prelude.{slice_get}
 use Rattle.std.proofs.lemmas.List.{drop_more, drop_all}
 use Rattle.dns_client.specs.declared.query.DnsQuery.{DnsQuery}
 use Rattle.dns_client.specs.Slots.{Slots, first_free, with_new, least_due, earlier, due_of}
@@ -32,3 +33,26 @@ pub least_due_more : (slots : Slots) (at : ℕ) (slot : Option DnsQuery) → at 
     → earlier (due_of slot) (least_due (drop (at + 1) slots)) ≡ least_due (drop at slots)
 least_due_more slots at slot inside is =
     ap (λ one. earlier (due_of one) (least_due (drop (at + 1) slots))) is ∙ sym (ap least_due (drop_more slots at None inside))
+
+new_there : (query : DnsQuery) (slots : Slots) → get_or (with_new query slots) (first_free slots) None ≡ Some query
+new_there query [] = refl
+new_there query (None ∷ slots) = refl
+new_there query (Some taken ∷ slots) = new_there query slots
+
+others_there : (query : DnsQuery) (slots : Slots) (k : ℕ) → k ≢ first_free slots
+    → slice_get (with_new query slots) k ≡ slice_get slots k
+others_there query [] zero other = absurd (other refl)
+others_there query [] (suc k) other = refl
+others_there query (None ∷ slots) zero other = absurd (other refl)
+others_there query (None ∷ slots) (suc k) other = refl
+others_there query (Some taken ∷ slots) zero other = refl
+others_there query (Some taken ∷ slots) (suc k) other = others_there query slots k (λ same. other (ap suc same))
+
+-- the slots once a query was put into the lowest free one
+pub new_is_live : (query : DnsQuery) (old new : Slots) (at : ℕ) → at ≡ first_free old → new ≡ with_new query old
+    → get_or new at None ≡ Some query
+new_is_live query old new at there is = rw (is, there) (new_there query old)
+
+pub others_stay : (query : DnsQuery) (old new : Slots) (at k : ℕ) → at ≡ first_free old → new ≡ with_new query old → k ≢ at
+    → slice_get new k ≡ slice_get old k
+others_stay query old new at k there is other = rw is (others_there query old k (λ same. other (same ∙ sym there)))

@@ -1,4 +1,5 @@
--- The answer of a response: which records are on the chain of aliases from a name on (RFC 1034, section 3.6.2).
+-- The answer of a response: which records are on the chain of aliases from a name on (RFC 1034, section
+-- 3.6.2).
 use Rattle.std.specs.Prelude.{ℕ, zero, suc, ◌==◌, nat_lt, nat_eq, Bool, List, [], ◌∷◌, ◌++◌, take, reverse, Option, Some, None, option_map, if◌then◌else◌}
 use Rattle.std.specs.Cmp.Lexicographic.{pointwise}
 use Rattle.net_wire.specs.declared.address.IpAddress.{IpAddress}
@@ -13,7 +14,8 @@ Name = List (List ℕ)
 abbrev pub is_same_name : Name → Name → Bool
 is_same_name = pointwise (pointwise nat_eq)
 
--- what an answer record says: an address by a record of a type, the name that its owner is an alias of, or neither
+-- what an answer record says: an address by a record of a type, the name that its owner is an alias of, or
+-- neither
 pub data Content : Type 0 where
   HasAddress : ℕ → IpAddress → Content
   HasAlias : Name → Content
@@ -52,7 +54,8 @@ abbrev pub answer_at : List ℕ → List ℕ → Option (AnswerValue × List ℕ
 answer_at message bytes = answer_from message (record_at bytes)
 
 -- so many answers from the front, if each reads whole
-abbrev pub answers_then : (List ℕ → Option (List AnswerValue)) → Option (AnswerValue × List ℕ) → Option (List AnswerValue)
+abbrev pub answers_then : (List ℕ → Option (List AnswerValue)) → Option (AnswerValue × List ℕ)
+    → Option (List AnswerValue)
 answers_then next None = None
 answers_then next (Some found) = option_map (λ more. found.0 ∷ more) (next found.1)
 
@@ -76,10 +79,11 @@ address_in number (HasAlias target) = []
 address_in number HasNeither = []
 
 abbrev pub addresses_for : ℕ → Name → AnswerValue → List IpAddress
-addresses_for number name answer = if is_same_name answer.owner name then address_in number answer.content else []
+addresses_for number name answer =
+    if is_same_name answer.owner name then address_in number answer.content else []
 
--- The wanted name behind some answers, the newest first: the target of the last alias on the chain, or the asked name
--- where there is none.
+-- The wanted name behind some answers, the newest first: the target of the last alias on the chain, or the
+-- asked name where there is none.
 abbrev pub wanted : Name → List AnswerValue → Name
 wanted asked [] = asked
 wanted asked (answer ∷ before) = next_name (wanted asked before) answer
@@ -87,7 +91,8 @@ wanted asked (answer ∷ before) = next_name (wanted asked before) answer
 -- the addresses on the chain, the newest answer first
 abbrev pub addresses : ℕ → Name → List AnswerValue → List IpAddress
 addresses number asked [] = []
-addresses number asked (answer ∷ before) = addresses number asked before ++ addresses_for number (wanted asked before) answer
+addresses number asked (answer ∷ before) =
+    addresses number asked before ++ addresses_for number (wanted asked before) answer
 
 -- the answer: the first four
 abbrev pub chain_answer : ℕ → Name → List AnswerValue → List IpAddress

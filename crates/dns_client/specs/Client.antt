@@ -1,5 +1,5 @@
 -- The client as a value, without where its slots lie in memory.
-use Rattle.std.specs.Prelude.{◌≡◌, ℕ, ◌==◌, ◌⊎◌, nat_lt, is_some, unwrap_or, not, ◌&&◌, List, length, Bool, Option, Some, None, Result, Err, IfOk, IfErr, OnErr, if◌then◌else◌}
+use Rattle.std.specs.Prelude.{◌≡◌, ℕ, ◌==◌, ◌⊎◌, ◌≢◌, nat_lt, is_some, unwrap_or, slice_get, not, ◌&&◌, List, length, Bool, Option, Some, None, Result, Err, IfOk, IfErr, OnErr, if◌then◌else◌}
 use Rattle.std.specs.Borrow.{GName}
 use Rattle.managed.specs.Storage.{items_of, item_storage}
 use Rattle.net_wire.specs.declared.address.IpAddress.{IpAddress}
@@ -9,7 +9,7 @@ use Rattle.dns_client.specs.declared.query.DnsQuery.{DnsQuery}
 use Rattle.dns_client.specs.declared.query.QueryHandle.{QueryHandle}
 use Rattle.dns_client.specs.declared.socket.Socket.{Socket}
 use Rattle.dns_client.specs.PlainName.{plain_name}
-use Rattle.dns_client.specs.Slots.{Slots, first_free, with_new}
+use Rattle.dns_client.specs.Slots.{Slots, first_free, with_new, slot_at}
 use Rattle.dns_client.specs.TextName.{labels_of_text, name_fault}
 
 -- the servers, the slots, the hop limit, and the borrow that the slots lie behind, if they are borrowed
@@ -61,10 +61,15 @@ pub record HadToGrow (client : Client) : Type 0 where
   pub owned : client.storage ≡ None
   pub taken : first_free client.slots ≡ length client.slots
 
--- A query is started, or refused by its refusal; but for that, only memory can run out.
-pub record Started (refusal : Option StartQueryError) (query : DnsQuery) (result : Result QueryHandle StartQueryError)
+-- A query is started, or refused by its refusal; but for that, only memory can run out. A query that is
+-- started stands in the lowest free slot, and every other slot is as it was.
+pub record Started (refusal : Option StartQueryError) (query : DnsQuery)
+    (result : Result QueryHandle StartQueryError)
     (old new : Client) : Type 0 where
   pub refuses : (error : StartQueryError) → refusal ≡ Some error → result ≡ Err error
   pub cause : IfErr result (λ error. (refusal ≡ Some error) ⊎ ((error ≡ NoMemory) × HadToGrow old))
-  pub ok : IfOk result (λ handle. (handle.0 ≡ first_free old.slots) × (new ≡ record old { slots = with_new query old.slots }))
+  pub ok : IfOk result (λ handle. (handle.0 ≡ first_free old.slots)
+      × (new ≡ record old { slots = with_new query old.slots }))
+  pub live : IfOk result (λ handle. slot_at new.slots handle ≡ Some query)
+  pub others : IfOk result (λ handle. (k : ℕ) → k ≢ handle.0 → slice_get new.slots k ≡ slice_get old.slots k)
   pub err : OnErr result (new ≡ old)

@@ -6,8 +6,8 @@ use Rattle.net_wire.specs.declared.error.EmitError.TheVariants.{Unresolved, NoMe
 use Rattle.net_wire.specs.declared.ip.IpRepr.{IpRepr}
 use Rattle.net_wire.specs.declared.udp.UdpRepr.{UdpRepr}
 
--- A message of a query: the place of the query's slot, the place in the list of servers or groups that it goes to, the
--- headers that it is sent behind, and its bytes.
+-- A message of a query: the place of the query's slot, the place in the list of servers or groups that it
+-- goes to, the headers that it is sent behind, and its bytes.
 pub record Outgoing : Type 0 where
   pub slot : ℕ
   pub place : ℕ
@@ -15,7 +15,8 @@ pub record Outgoing : Type 0 where
   pub udp : UdpRepr
   pub payload : List ℕ
 
--- An emitter that is `old` before the call and `new` after it answers a message; `took` and `refused` are its meanings.
+-- An emitter that is `old` before the call and `new` after it answers a message; `took` and `refused` are its
+-- meanings.
 pub record Emitted {E : Type 0} (took refused : E → E → Outgoing → Type 0) (outgoing : Outgoing)
     (result : Result (Unit {0}) EmitError) (old new : E) : Type 0 where
   pub ok : OnOk result (took old new outgoing)

@@ -14,3 +14,5 @@ pub mod LookRead
 pub mod Client
 pub mod Repeated
 pub mod Sends
+pub mod Examples
+pub mod QueryExamples

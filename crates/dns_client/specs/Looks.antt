@@ -1,4 +1,5 @@
--- Looks at queries (RFC 1035, section 7.2; RFC 6762, section 5.1): where a look finds a query due, its next message is sent.
+-- Looks at queries (RFC 1035, section 7.2; RFC 6762, section 5.1): where a look finds a query due, its next
+-- message is sent.
 use Rattle.std.specs.Prelude.{◌≡◌, ℕ, ◌+◌, ◌*◌, nat_lt, List, [], ◌∷◌, ◌++◌, length, replicate, Option, Some, None, Result, Ok, OnOk, OnErr, ℤ, pos, int_lt, slice_get, if◌then◌else◌}
 use Rattle.net_wire.specs.declared.address.IpAddress.{IpAddress}
 use Rattle.net_wire.specs.declared.address.IpAddress.TheVariants as ip
@@ -19,10 +20,12 @@ use Rattle.dns_client.specs.Response.{failed}
 use Rattle.dns_client.specs.Slots.{Slots}
 use Rattle.dns_client.specs.Waiting.{RequestValue, Waiting}
 
--- The list that a query asks: the servers by port 53, or the groups of mDNS, ff02::fb and 224.0.0.251, by port 5353
--- (RFC 6762, section 3).
+-- The list that a query asks: the servers by port 53, or the groups of mDNS, ff02::fb and 224.0.0.251, by
+-- port 5353 (RFC 6762, section 3).
 abbrev pub groups : List IpAddress
-groups = ip.Ipv6 (record { 0 = 0xff ∷ 2 ∷ replicate 13 0 ++ 0xfb ∷ [] }) ∷ ip.Ipv4 (record { 0 = 224 ∷ 0 ∷ 0 ∷ 251 ∷ [] }) ∷ []
+groups =
+    ip.Ipv6 (record { 0 = 0xff ∷ 2 ∷ replicate 13 0 ++ 0xfb ∷ [] })
+    ∷ ip.Ipv4 (record { 0 = 224 ∷ 0 ∷ 0 ∷ 251 ∷ [] }) ∷ []
 
 abbrev pub places : List IpAddress → MulticastDns → List IpAddress
 places servers Disabled = servers
@@ -32,13 +35,19 @@ abbrev pub port_of : MulticastDns → ℕ
 port_of Disabled = 53
 port_of Enabled = 5353
 
--- A turn is over where its timeout is before now: the next place is asked, from the beginning. It has its timeout at the
--- first look.
+-- A turn is over where its timeout is before now: the next place is asked, from the beginning. It has its
+-- timeout at the first look.
 abbrev pub turned_by : Option ℤ → ℤ → Turn → Turn
 turned_by None now turn = record turn { timeout_at = Some (instant_after now 10000000) }
 turned_by (Some timeout) now turn =
     if int_lt timeout now
-    then record { timeout_at = Some (instant_after now 10000000); retransmit_at = pos 0; delay = 1000000; place = turn.place + 1; asked = turn.asked }
+    then record {
+      timeout_at = Some (instant_after now 10000000);
+      retransmit_at = pos 0;
+      delay = 1000000;
+      place = turn.place + 1;
+      asked = turn.asked;
+    }
     else turn
 
 abbrev pub turned : ℤ → Turn → Turn
@@ -54,8 +63,8 @@ sent_to to now turn = record {
   asked = Some to;
 }
 
--- what a look does: pass a slot with no query that waits, keep the query with this turn, end it, or ask: the request, the
--- source, the destination, and the turn where the message is refused, and where it is taken
+-- what a look does: pass a slot with no query that waits, keep the query with this turn, end it, or ask: the
+-- request, the source, the destination, and the turn where the message is refused, and where it is taken
 pub data Choice : Type 0 where
   Pass : Choice
   Keep : Turn → Choice
@@ -66,7 +75,8 @@ abbrev pub choice_from : RequestValue → ℤ → Turn → IpAddress → Option 
 choice_from request now turn to None = Fail
 choice_from request now turn to (Some from) = Ask request from to turn (sent_to to now turn)
 
--- A query ends past the list, at a place with no address, and where there is no source address. It waits for its due.
+-- A query ends past the list, at a place with no address, and where there is no source address. It waits for
+-- its due.
 abbrev pub choice_at : (IpAddress → Option IpAddress) → RequestValue → ℤ → Turn → Option IpAddress → Choice
 choice_at source request now turn None = Fail
 choice_at source request now turn (Some to) =
@@ -97,15 +107,16 @@ abbrev pub with_turn : Turn → Option DnsQuery → Option DnsQuery
 with_turn turn None = None
 with_turn turn (Some query) = Some (record { state = state_with turn query.state })
 
--- The looks of one call, in the order of the slots: none asks, and the slots are left so; or one does, with the slots
--- passed before it, its slot, what it asks, and the slots that are not looked at.
+-- The looks of one call, in the order of the slots: none asks, and the slots are left so; or one does, with
+-- the slots passed before it, its slot, what it asks, and the slots that are not looked at.
 pub data Walk : Type 0 where
   Quiet : Slots → Walk
   Sends : Slots → Option DnsQuery → RequestValue → IpAddress → IpAddress → Turn → Turn → Slots → Walk
 
 abbrev pub behind : Slots → Walk → Walk
 behind front (Quiet slots) = Quiet (front ++ slots)
-behind front (Sends passed slot request from to before after rest) = Sends (front ++ passed) slot request from to before after rest
+behind front (Sends passed slot request from to before after rest) =
+    Sends (front ++ passed) slot request from to before after rest
 
 abbrev pub walk_on : Option DnsQuery → Choice → Slots → Walk → Walk
 walk_on slot Pass rest next = behind (slot ∷ []) next
@@ -124,17 +135,32 @@ message_for route request =
     record {
       slot = route.slot;
       place = route.place;
-      ip = record { src_addr = route.from; dst_addr = route.to; next_header = Udp; payload_len = length request.name + 24; hop_limit = route.hop_limit };
+      ip = record {
+        src_addr = route.from;
+        dst_addr = route.to;
+        next_header = Udp;
+        payload_len = length request.name + 24;
+        hop_limit = route.hop_limit;
+      };
       udp = record { src_port = request.port; dst_port = port_of request.mdns };
       payload = payload;
     }
 
--- A walk carried out: on the slots, `new` after it, and on the emitter, `out` before and `later` after it. Where it asks,
--- one message is handed over, and the turn of its query goes by the answer.
+-- A walk carried out: on the slots, `new` after it, and on the emitter, `out` before and `later` after it.
+-- Where it asks, one message is handed over, and the turn of its query goes by the answer.
 abbrev pub Dispatched : {E : Type 0} → (E → E → Outgoing → Type 0) → (E → E → Outgoing → Type 0) → ℕ → Walk
     → Result (Unit {0}) EmitError → Slots → E → E → Type 0
-Dispatched took refused hop_limit (Quiet slots) result new out later = (result ≡ Ok tt) × (new ≡ slots) × (later ≡ out)
+Dispatched took refused hop_limit (Quiet slots) result new out later =
+    (result ≡ Ok tt) × (new ≡ slots) × (later ≡ out)
 Dispatched took refused hop_limit (Sends front slot request from to before after rest) result new out later =
-    Emitted took refused (message_for (record { slot = length front; place = before.place; from = from; to = to; hop_limit = hop_limit }) request) result out later
+    Emitted took refused
+    (message_for (record {
+      slot = length front;
+      place = before.place;
+      from = from;
+      to = to;
+      hop_limit = hop_limit;
+    }) request)
+    result out later
     × OnOk result (new ≡ front ++ with_turn after slot ∷ rest)
     × OnErr result (new ≡ front ++ with_turn before slot ∷ rest)

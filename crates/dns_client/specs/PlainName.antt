@@ -9,4 +9,5 @@ wire_bytes (label ∷ labels) = length label ∷ label ++ wire_bytes labels
 
 -- the name of bytes that are one whole name with no pointer
 abbrev pub plain_name : List ℕ → Option (List (List ℕ))
-plain_name bytes = option_and_then (λ len. if len == length bytes then name_at [] bytes else None) (name_len bytes)
+plain_name bytes =
+    option_and_then (λ len. if len == length bytes then name_at [] bytes else None) (name_len bytes)

@@ -12,7 +12,8 @@ use Rattle.dns_client.specs.declared.query.QueryState.{QueryState}
 use Rattle.dns_client.specs.declared.query.QueryState.TheVariants.{Pending, Answered, Failed}
 use Rattle.dns_client.specs.Waiting.{RequestValue}
 
--- the turn of a query that was not looked at yet: due at once, first place, one second until the message is sent again
+-- the turn of a query that was not looked at yet: due at once, first place, one second until the message is
+-- sent again
 abbrev pub first_turn : Turn
 first_turn = record { timeout_at = None; retransmit_at = pos 0; delay = 1000000; place = 0; asked = None }
 

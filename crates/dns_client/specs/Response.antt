@@ -25,23 +25,26 @@ is_same_address (ip.Ipv6 one) (ip.Ipv6 other) = pointwise nat_eq one.0 other.0
 
 -- from port 53 of a listed server, or from port 5353 (RFC 6762, section 5.2)
 abbrev pub is_accepted : List IpAddress → IpAddress → ℕ → Bool
-is_accepted servers source port = (port == 5353) || ((port == 53) && list_any (λ server. is_same_address server source) servers)
+is_accepted servers source port =
+    (port == 5353) || ((port == 53) && list_any (λ server. is_same_address server source) servers)
 
 -- the header says a standard response to one question
 abbrev pub is_response : List ℕ → Bool
 is_response message =
-    (opcode_of message == 0) && (bit_and (flag_bits message) 0x8000 == 0x8000) && (question_count message == 1)
+    (opcode_of message == 0) && (bit_and (flag_bits message) 0x8000 == 0x8000)
+    && (question_count message == 1)
 
 -- where a datagram came from, the port that it came to, and the id of its message
 abbrev pub arrived_by : IpAddress → ℕ → ℕ → List ℕ → Arrived
 arrived_by source source_port port message =
     record { source = source; source_port = source_port; port = port; id = message_id message }
 
--- The source is right: port 53 of the address that the last message went to, or for mDNS port 5353. None is right before
--- a message went out.
+-- The source is right: port 53 of the address that the last message went to, or for mDNS port 5353. None is
+-- right before a message went out.
 abbrev pub has_right_source : Arrived → MulticastDns → Option IpAddress → Bool
 has_right_source arrived mdns None = false
-has_right_source arrived Disabled (Some asked) = (arrived.source_port == 53) && is_same_address asked arrived.source
+has_right_source arrived Disabled (Some asked) =
+    (arrived.source_port == 53) && is_same_address asked arrived.source
 has_right_source arrived Enabled (Some asked) = arrived.source_port == 5353
 
 abbrev pub reaches_waiting : Arrived → Waiting → Bool
@@ -67,20 +70,23 @@ is_named (Some name) (Some other) = is_same_name name other
 -- the question is the query's own, by type and labels
 abbrev pub asks_for : List ℕ → RequestValue → QuestionValue → Bool
 asks_for message request question =
-    (type_number question.type_ == type_number request.type_) && is_named (name_at message question.name) (plain_name request.name)
+    (type_number question.type_ == type_number request.type_)
+    && is_named (name_at message question.name) (plain_name request.name)
 
 abbrev pub chain_from : List ℕ → RequestValue → List ℕ → Option Name → Option (List IpAddress)
 chain_from message request records None = None
 chain_from message request records (Some asked) =
-    option_map (chain_answer (type_number request.type_) asked) (answers_at message (answer_count message) records)
+    option_map (chain_answer (type_number request.type_) asked)
+    (answers_at message (answer_count message) records)
 
 abbrev pub answer_to : List ℕ → RequestValue → Option (QuestionValue × List ℕ) → Option (List IpAddress)
 answer_to message request None = None
 answer_to message request (Some found) =
-    if asks_for message request found.0 then chain_from message request found.1 (plain_name request.name) else None
+    if asks_for message request found.0
+    then chain_from message request found.1 (plain_name request.name) else None
 
--- What a response says to a request: the addresses of its answer, if it repeats the question and every answer record reads
--- whole.
+-- What a response says to a request: the addresses of its answer, if it repeats the question and every answer
+-- record reads whole.
 abbrev pub answer_for : List ℕ → RequestValue → Option (List IpAddress)
 answer_for message request = answer_to message request (question_at (drop 12 message))
 
@@ -130,7 +136,8 @@ abbrev pub has_answer : List ℕ → Option DnsQuery → Bool
 has_answer message None = false
 has_answer message (Some query) = is_some (answer_in message query.state)
 
--- A response decides a query: it reaches one, and the name does not exist, or it answers the first one that it reaches.
+-- A response decides a query: it reaches one, and the name does not exist, or it answers the first one that
+-- it reaches.
 abbrev pub decides : Arrived → List ℕ → Slots → Bool
 decides arrived message slots =
     nat_le 12 (length message) && is_response message && is_some (first_reached arrived slots)

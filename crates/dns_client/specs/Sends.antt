@@ -7,7 +7,8 @@ use Rattle.dns_client.specs.Query.{new_query}
 use Rattle.dns_client.specs.Response.{failed}
 use Rattle.dns_client.specs.Waiting.{RequestValue}
 
--- a look at a query: the source addresses, the servers and the time of the call, and whether its message is taken
+-- a look at a query: the source addresses, the servers and the time of the call, and whether its message is
+-- taken
 pub record QueryLook : Type 0 where
   pub source : IpAddress → Option IpAddress
   pub servers : List IpAddress
@@ -27,14 +28,16 @@ choice_of one slot = look one.source one.servers one.now slot
 -- the slot of a query behind some looks, the newest first
 abbrev pub slot_behind : RequestValue → List QueryLook → Option DnsQuery
 slot_behind request [] = Some (new_query request)
-slot_behind request (one ∷ before) = left_by one.is_taken (slot_behind request before) (choice_of one (slot_behind request before))
+slot_behind request (one ∷ before) =
+    left_by one.is_taken (slot_behind request before) (choice_of one (slot_behind request before))
 
 -- the messages of a look to a place of the list
 abbrev pub sent_by : ℕ → Bool → Choice → ℕ
 sent_by place is_taken Pass = 0
 sent_by place is_taken (Keep turn) = 0
 sent_by place is_taken Fail = 0
-sent_by place is_taken (Ask request from to before after) = if is_taken && (before.place == place) then 1 else 0
+sent_by place is_taken (Ask request from to before after) =
+    if is_taken && (before.place == place) then 1 else 0
 
 -- the messages of a query to a place
 abbrev pub messages_to : ℕ → RequestValue → List QueryLook → ℕ
@@ -47,8 +50,9 @@ abbrev pub AreUpTo : ℤ → List QueryLook → Type 0
 AreUpTo latest [] = ⊤
 AreUpTo latest (one ∷ before) = (one.now ≤ℤ latest) × AreUpTo one.now before
 
--- By the looks before the last instant, a query sends at most four messages to one place: within a turn, which ends ten
--- seconds after its first look, they are 1, 2 and 4 seconds apart, and a fifth would come 8 seconds after the fourth.
+-- By the looks before the last instant, a query sends at most four messages to one place: within a turn,
+-- which ends ten seconds after its first look, they are 1, 2 and 4 seconds apart, and a fifth would come 8
+-- seconds after the fourth.
 abbrev pub FourMessages : Type 0
 FourMessages = (request : RequestValue) (looks : List QueryLook) (place : ℕ)
     → AreUpTo (pos (2 ^ 63 - 2)) looks → messages_to place request looks ≤ 4

@@ -39,7 +39,8 @@ freed_in (Answered addresses) slots handle = without slots handle
 freed_in Failed slots handle = without slots handle
 
 -- what the query of a handle gives, and what it leaves of the slots
-pub record Gives (old : Slots) (handle : QueryHandle) (result : Result (ArrayVec IpAddress) GetQueryResultError) (new : Slots) : Type 0 where
+pub record Gives (old : Slots) (handle : QueryHandle)
+    (result : Result (ArrayVec IpAddress) GetQueryResultError) (new : Slots) : Type 0 where
   pub query : DnsQuery
   pub there : slot_at old handle ≡ Some query
   pub value : result ≡ query_result query

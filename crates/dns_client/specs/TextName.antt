@@ -1,4 +1,5 @@
--- Names as they are written, with a point between labels (RFC 1035, section 2.3.1), and what is wrong with them.
+-- Names as they are written, with a point between labels (RFC 1035, section 2.3.1), and what is wrong with
+-- them.
 use Rattle.std.specs.Prelude.{ℕ, ◌+◌, ◌-◌, ◌==◌, ◌||◌, nat_lt, nat_eq, List, [], ◌∷◌, length, take, slice_index, Option, Some, None, Result, Ok, Err, codes, if◌then◌else◌}
 use Rattle.std.specs.List.{slice_split}
 use Rattle.std.specs.Cmp.Lexicographic.{pointwise}
@@ -20,8 +21,8 @@ parts_of text = slice_split (λ b. b == 46) text
 abbrev pub labels_of_text : List ℕ → List (List ℕ)
 labels_of_text text = parts_of (without_point text)
 
--- A label has 1 to 63 bytes (RFC 1035, section 2.3.4). With its length byte and the bytes before, of which there are so
--- many, it stays within 255.
+-- A label has 1 to 63 bytes (RFC 1035, section 2.3.4). With its length byte and the bytes before, of which
+-- there are so many, it stays within 255.
 abbrev pub label_fault : ℕ → List ℕ → Option StartQueryError
 label_fault len label =
     if (length label == 0) || nat_lt 63 (length label) then Some InvalidName
@@ -38,7 +39,8 @@ first_fault (Some fault) next = Some fault
 -- the first fault from the front, behind so many bytes
 abbrev pub name_fault : ℕ → List (List ℕ) → Option StartQueryError
 name_fault len [] = end_fault len
-name_fault len (label ∷ labels) = first_fault (label_fault len label) (name_fault (len + (1 + length label)) labels)
+name_fault len (label ∷ labels) =
+    first_fault (label_fault len label) (name_fault (len + (1 + length label)) labels)
 
 -- a name whose last label is `local` is asked for by mDNS (RFC 6762, section 3)
 abbrev pub mdns_of_label : List ℕ → MulticastDns
@@ -52,7 +54,8 @@ abbrev pub mdns_of : List (List ℕ) → MulticastDns
 mdns_of labels = mdns_from Disabled labels
 
 -- what a text asks for, or its first fault
-abbrev pub bytes_or_fault : Option StartQueryError → List (List ℕ) → Result (ArrayVec ℕ × MulticastDns) StartQueryError
+abbrev pub bytes_or_fault : Option StartQueryError → List (List ℕ)
+    → Result (ArrayVec ℕ × MulticastDns) StartQueryError
 bytes_or_fault None labels = Ok (record { items = wire_bytes labels }, mdns_of labels)
 bytes_or_fault (Some fault) labels = Err fault
 

@@ -4,7 +4,8 @@ use Rattle.net_wire.specs.declared.dns.dns_type.DnsType.{DnsType}
 use Rattle.dns_client.specs.declared.query.MulticastDns.{MulticastDns}
 use Rattle.dns_client.specs.declared.query.Turn.{Turn}
 
--- what a query asks for: the bytes of a plain name, a type, whether by mDNS; and by which id and port its answer is known
+-- what a query asks for: the bytes of a plain name, a type, whether by mDNS; and by which id and port its
+-- answer is known
 pub record RequestValue : Type 0 where
   pub name : List ℕ
   pub type_ : DnsType

@@ -1,4 +1,6 @@
 //! What follows from the definitions.
+ghost use Rattle.dns_client.specs.Examples.{ChainsByExample, FaultsByExample};
+ghost use Rattle.dns_client.specs.QueryExamples.{LooksByExample, ResponsesByExample};
 ghost use Rattle.dns_client.specs.Repeated.{SecondLookChangesNothing};
 ghost use Rattle.dns_client.specs.Response.{UndecidedIsUnchanged};
 ghost use Rattle.dns_client.specs.Sends.{FourMessages};
@@ -16,4 +18,24 @@ pub fn second_look_changes_nothing()
 /// A query sends at most four messages to one place of the list that it asks.
 pub fn four_messages_to_a_place()
     ensures { FourMessages }
+{}
+
+/// Names as they are written, and their first faults.
+pub fn faults_by_example()
+    ensures { FaultsByExample }
+{}
+
+/// Addresses along chains of aliases.
+pub fn chains_by_example()
+    ensures { ChainsByExample }
+{}
+
+/// Responses, and what they decide.
+pub fn responses_by_example()
+    ensures { ResponsesByExample }
+{}
+
+/// A query over time.
+pub fn looks_by_example()
+    ensures { LooksByExample }
 {}

@@ -68,6 +68,7 @@ impl<'a> Socket<'a> {
         }
     }
 
+    #[tactic(auto, using(crate::proofs::SlotLemmas::new_is_live, crate::proofs::SlotLemmas::others_stay))]
     fn start(&mut self, request: Request) -> Result<QueryHandle, StartQueryError>
         ensures { Started (place_fault (client_of self.old)) (new_query request) result (client_of self.old) (client_of self.new) }
     {

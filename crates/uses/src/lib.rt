@@ -9,6 +9,9 @@ pub mod layers;
 #[cfg(test)]
 mod packet_tests;
 pub mod printing;
+pub mod queries;
+#[cfg(test)]
+mod query_tests;
 pub mod runs;
 pub mod sums;
 #[cfg(test)]

@@ -122,8 +122,8 @@ fn addresses_are_of_the_asked_type(rt: HostRuntime) -> Result<(), Fail> {
     Ok(())
 }
 
-/// Three aliases, an address of another name between them, an address at the end, and an OPT record (RFC 6891) in the
-/// additional section.
+/// Three aliases, an address of another name between them, an address at the end, and an OPT record
+/// (RFC 6891) in the additional section.
 fn aliases() -> Message {
     let mut message = response(0, 5);
     add(&mut message, 5, b"\x01b\xc0\x0e");
@@ -156,35 +156,29 @@ fn a_damaged_response_leaves_the_query(rt: HostRuntime) -> Result<(), Fail> {
         hear(&mut socket, server(1), 53, 1025, &good.as_slice()[..len]);
     }
     assert_eq!(rt; outcome_of(&mut socket, handle), Outcome::Pending);
-    // each byte of the question's name, and the counts of questions and of answers
-    for (place, byte) in [
-        (12, 0xc0),
-        (13, 0xc0),
-        (14, 0xc0),
-        (15, 0xc0),
-        (16, 0xc0),
-        (17, 0xc0),
-        (18, 0xc0),
-        (19, 0xc0),
-        (20, 0xc0),
-        (21, 0xc0),
-        (22, 0xc0),
-        (5, 2),
-        (7, 3),
-        (2, 0x01),
-        (2, 0x89),
-        (1, 8),
+    // each byte of the question and the offset of the first owner, the counts of questions and of answers, the
+    // response bit, the opcode, and the id
+    for (from, to, byte) in [
+        (12, 27, 0xc0),
+        (28, 29, 0xc0),
+        (5, 6, 2),
+        (7, 8, 3),
+        (2, 3, 0x01),
+        (2, 3, 0x89),
+        (1, 2, 8),
     ] {
-        let mut bad = good.clone()?;
-        if place < bad.len() {
-            bad[place] = byte;
+        for place in from..to {
+            let mut bad = good.clone()?;
+            if place < bad.len() {
+                bad[place] = byte;
+            }
+            hear(&mut socket, server(1), 53, 1025, &bad);
+            assert_eq!(rt;
+                outcome_of(&mut socket, handle),
+                Outcome::Pending,
+                "{place} {byte}"
+            );
         }
-        hear(&mut socket, server(1), 53, 1025, &bad);
-        assert_eq!(rt;
-            outcome_of(&mut socket, handle),
-            Outcome::Pending,
-            "{place} {byte}"
-        );
     }
     hear(&mut socket, server(1), 53, 1025, &good);
     assert_eq!(rt;

@@ -1,5 +1,5 @@
 use Rattle.dns_client.specs.AnswerRead.{answer_value}
-use Rattle.dns_client.proofs.AnswerLemmas.{goes_on_behind, stops_behind, finishes_behind}
+use Rattle.dns_client.proofs.FollowLemmas.{goes_on_behind, stops_behind, finishes_behind}
 use Rattle.dns_client.proofs.answer.follow.Goals as goal
 
 pub returns-in_default : goal.returns-in_default

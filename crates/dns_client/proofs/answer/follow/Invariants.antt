@@ -3,7 +3,7 @@ use Rattle.std.proofs.Common.{◌≡◌, ◌-◌, Some}
 use Rattle.net_wire.specs.DnsLabels.{labels_left}
 use Rattle.net_wire.specs.DnsName.{name_of}
 use Rattle.dns_client.specs.AnswerChain.{Name, answers_at}
-use Rattle.dns_client.proofs.AnswerLemmas.{Progress}
+use Rattle.dns_client.proofs.FollowLemmas.{Progress}
 use Rattle.dns_client.proofs.answer.follow.Given as goal
 
 abbrev pub invariant-loop-i : goal.invariant-loop-i

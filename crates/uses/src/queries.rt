@@ -1,0 +1,24 @@
+//! `dns_client`: a query is started, and a datagram may answer it.
+ghost use Rattle.std.specs.Prelude.{◌≡◌, ◌≢◌, ℕ, IfOk, OnErr, IsSome, slice_get};
+ghost use Rattle.dns_client.specs.Client.{client_of};
+ghost use Rattle.dns_client.specs.Slots.{first_free, slot_at};
+
+use dns_client::{QueryHandle, Socket, StartQueryError};
+use net_wire::dns::DnsType;
+
+/// Asks for the IPv4 addresses of a name. The query takes the lowest free slot, no other query is
+/// touched, and a refusal changes nothing.
+pub fn ask(
+    socket: &mut Socket<'_>,
+    name: &str,
+    id_word: u32,
+    port_word: u32,
+) -> Result<QueryHandle, StartQueryError>
+    ensures place { IfOk result (λ handle. handle.0 ≡ first_free (client_of socket.old).slots) }
+    ensures live { IfOk result (λ handle. IsSome (slot_at (client_of socket.new).slots handle)) }
+    ensures others { IfOk result (λ handle. (k : ℕ) → k ≢ handle.0
+        → slice_get (client_of socket.new).slots k ≡ slice_get (client_of socket.old).slots k) }
+    ensures err { OnErr result (client_of socket.new ≡ client_of socket.old) }
+{
+    socket.start_query(name, DnsType::A, id_word, port_word)
+}
