@@ -243,22 +243,42 @@ fn a_shown_frame_has_a_text(rt: HostRuntime) -> Result<(), Fail> {
     Ok(())
 }
 
+/// A capture of two frames, as `scripts/check-capture` writes it: the header, a request of ARP that
+/// came at 0.999999 s, and eight bytes that were sent at 1 s.
+const CAPTURE: [u8; 106] = [
+    0xd4, 0xc3, 0xb2, 0xa1, 0x02, 0x00, 0x04, 0x00, 0x00, 0x00, 0x00, 0x00, 0x00, 0x00, 0x00, 0x00,
+    0x00, 0x00, 0x04, 0x00, 0x01, 0x00, 0x00, 0x00, //
+    0x00, 0x00, 0x00, 0x00, 0x3f, 0x42, 0x0f, 0x00, 0x2a, 0x00, 0x00, 0x00, 0x2a, 0x00, 0x00, 0x00,
+    0xff, 0xff, 0xff, 0xff, 0xff, 0xff, 0x02, 0x00, 0x00, 0x00, 0x00, 0x01, 0x08, 0x06, //
+    0x00, 0x01, 0x08, 0x00, 0x06, 0x04, 0x00, 0x01, 0x02, 0x00, 0x00, 0x00, 0x00, 0x01, //
+    0xc0, 0xa8, 0x01, 0x01, 0x00, 0x00, 0x00, 0x00, 0x00, 0x00, 0xc0, 0xa8, 0x01, 0x2a, //
+    0x01, 0x00, 0x00, 0x00, 0x00, 0x00, 0x00, 0x00, 0x08, 0x00, 0x00, 0x00, 0x08, 0x00, 0x00, 0x00,
+    0x01, 0x02, 0x03, 0x04, 0x05, 0x06, 0x07, 0x08,
+];
+
 #[test]
-fn a_sent_frame_is_captured(rt: HostRuntime) -> Result<(), Fail> {
-    let payload = [1, 2, 3, 4, 5, 6, 7, 8];
-    let inner = device(rt.alloc(), Medium::Ethernet, &[9])?;
-    let Ok(mut writer) = PcapWriter::new(inner, SureSink::new(rt.alloc()), PcapMode::TxOnly) else {
-        return Err(Fail::from("no memory"));
-    };
-    let now = Instant::from_micros(SECOND);
-    let meta = PacketMeta { id: 0 };
-    let mut into = [0; 1500];
-    assert_eq!(rt; writer.receive(now, &mut into), Ok(Some((1, meta))));
-    assert_eq!(rt; writer.transmit(now, meta, &payload), Ok(()));
-    let want =
-        b"\xd4\xc3\xb2\xa1\x02\x00\x04\x00\x00\x00\x00\x00\x00\x00\x00\x00\x00\x00\x04\x00\x01\x00\x00\x00\x01\x00\x00\x00\x00\x00\x00\x00\x08\x00\x00\x00\x08\x00\x00\x00\x01\x02\x03\x04\x05\x06\x07\x08";
-    assert_eq!(rt; writer.sink().bytes(), want.as_slice());
-    assert_eq!(rt; writer.get_ref().sent_frames().len(), 1);
+fn a_capture_has_the_frames_of_its_mode(rt: HostRuntime) -> Result<(), Fail> {
+    let alloc = rt.alloc();
+    for (mode, records) in [
+        (PcapMode::Both, &CAPTURE[24..]),
+        (PcapMode::RxOnly, &CAPTURE[24..82]),
+        (PcapMode::TxOnly, &CAPTURE[82..]),
+    ] {
+        let inner = device(alloc, Medium::Ethernet, &CAPTURE[40..82])?;
+        let Ok(mut writer) = PcapWriter::new(inner, SureSink::new(alloc), mode) else {
+            return Err(Fail::from("no memory"));
+        };
+        let now = Instant::from_micros(SECOND - 1);
+        let meta = PacketMeta { id: 0 };
+        let mut into = [0; 1500];
+        assert_eq!(rt; writer.receive(now, &mut into), Ok(Some((42, meta))));
+        let now = Instant::from_micros(SECOND);
+        assert_eq!(rt; writer.transmit(now, meta, &CAPTURE[98..]), Ok(()));
+        let mut want = Vec::from_slice(alloc, &CAPTURE[..24])?;
+        want.extend_from_slice(records)?;
+        assert_eq!(rt; writer.sink().bytes(), want.as_slice());
+        assert_eq!(rt; writer.get_ref().sent_frames().len(), 1);
+    }
     Ok(())
 }
 
@@ -266,8 +286,9 @@ fn a_sent_frame_is_captured(rt: HostRuntime) -> Result<(), Fail> {
 fn a_packet_is_a_capture_of_its_own(rt: HostRuntime) -> Result<(), Fail> {
     let mut sink = SureSink::new(rt.alloc());
     convert(&mut sink, PcapLinkType::Ip, &[0xff])?;
-    let want =
-        b"\x00\x00\x04\x00\x65\x00\x00\x00\x00\x00\x00\x00\x00\x00\x00\x00\x01\x00\x00\x00\x01\x00\x00\x00\xff";
+    let want = [
+        0, 0, 4, 0, 0x65, 0, 0, 0, 0, 0, 0, 0, 0, 0, 0, 0, 1, 0, 0, 0, 1, 0, 0, 0, 0xff,
+    ];
     assert_eq!(rt; sink.bytes().len(), 41);
     assert_eq!(rt; &sink.bytes()[16..], want.as_slice());
     Ok(())

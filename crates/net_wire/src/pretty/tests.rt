@@ -1,5 +1,5 @@
 //! Printed packets, as outside vectors have them.
-use crate::pretty::{EthernetFrame, Icmpv4Packet, Ipv4Packet, PrettyPrinter};
+use crate::pretty::{EthernetFrame, PrettyPrinter};
 use std::test::Fail;
 
 /// An echo request in an IPv4 packet in an Ethernet frame. The checksum of the IPv4 header is wrong.
