@@ -10,6 +10,7 @@ use Rattle.ether_link.specs.declared.layout.PartKind.{PartKind}
 use Rattle.ether_link.specs.declared.layout.PartKind.TheVariants.{HopByHop, LateHopByHop, Route, Fragment, DestinationOptions, Ipv4Auth, Ipv6Auth}
 use Rattle.ether_ip.specs.Auth.{auth_form}
 use Rattle.ether_ip.specs.Fragment.{fragment_form, is_ipv6_fragment}
+use Rattle.ether_ip.specs.Numbers.{hop_by_hop, ipv6_route, ipv6_fragment, authentication, destination_options}
 use Rattle.ether_ip.specs.RawExt.{raw_ext_form}
 use Rattle.ether_ip.specs.declared.err.ip_auth.HeaderError as auth
 use Rattle.ether_ip.specs.declared.err.ipv6_exts.HeaderError as extension
@@ -34,6 +35,7 @@ late_form wrong_len why = record {
   wrong_len = wrong_len;
 }
 
+-- how each extension header is read; no other kind is named in a chain
 abbrev pub extension_form_of : {E : Type 0} → ExtensionErrors E → PartKind → Form E
 extension_form_of errors HopByHop = raw_ext_form (layer_of_kind HopByHop) errors.wrong_len
 extension_form_of errors Route = raw_ext_form (layer_of_kind Route) errors.wrong_len
@@ -41,19 +43,20 @@ extension_form_of errors DestinationOptions = raw_ext_form (layer_of_kind Destin
 extension_form_of errors Fragment = fragment_form errors.wrong_len
 extension_form_of errors Ipv4Auth = auth_form errors.wrong_len errors.behind_ipv4
 extension_form_of errors Ipv6Auth = auth_form errors.wrong_len (λ error. errors.behind_ipv6 (extension.TheVariants.IpAuth error))
-extension_form_of errors kind = late_form errors.wrong_len (errors.behind_ipv6 extension.TheVariants.HopByHopNotAtStart)
+extension_form_of errors LateHopByHop = late_form errors.wrong_len (errors.behind_ipv6 extension.TheVariants.HopByHopNotAtStart)
+extension_form_of errors no_extension = late_form errors.wrong_len (errors.behind_ipv6 extension.TheVariants.HopByHopNotAtStart)
 
 -- the extension header that a number names in the chain, and right behind the IPv6 header
 abbrev pub extension_kind : ℕ → Option PartKind
 extension_kind number =
-    if number == 0 then Some LateHopByHop
-    else (if number == 43 then Some Route
-    else (if number == 44 then Some Fragment
-    else (if number == 60 then Some DestinationOptions
-    else (if number == 51 then Some Ipv6Auth else None))))
+    if number == hop_by_hop then Some LateHopByHop
+    else (if number == ipv6_route then Some Route
+    else (if number == ipv6_fragment then Some Fragment
+    else (if number == destination_options then Some DestinationOptions
+    else (if number == authentication then Some Ipv6Auth else None))))
 
 abbrev pub first_extension_kind : ℕ → Option PartKind
-first_extension_kind number = if number == 0 then Some HopByHop else extension_kind number
+first_extension_kind number = if number == hop_by_hop then Some HopByHop else extension_kind number
 
 -- the turn of a part, if one is named
 abbrev pub turn_to : ℕ → Bool → Option PartKind → Option Turn

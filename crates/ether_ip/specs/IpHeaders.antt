@@ -13,6 +13,7 @@ use Rattle.ether_ip.specs.Ip.{ip_slice_form}
 use Rattle.ether_ip.specs.Ipv4.{ipv4_header, is_ipv4_fragment}
 use Rattle.ether_ip.specs.Ipv6.{ipv6_header}
 use Rattle.ether_ip.specs.IpWindow.{ip_announced, ip_source}
+use Rattle.ether_ip.specs.Numbers.{authentication}
 use Rattle.ether_ip.specs.ExtensionGrammar.{first_extension_kind}
 use Rattle.ether_ip.specs.Auth.{auth_header}
 use Rattle.ether_ip.specs.Held.{extensions_of}
@@ -39,7 +40,7 @@ number_in header = if is_ipv4 header then slice_index header 9 else slice_index 
 
 abbrev pub extension_in : List ℕ → Option PartKind
 extension_in header =
-    if is_ipv4 header then (if slice_index header 9 == 51 then Some Ipv4Auth else None)
+    if is_ipv4 header then (if slice_index header 9 == authentication then Some Ipv4Auth else None)
     else first_extension_kind (slice_index header 6)
 
 -- the header says that the packet carries a fragment

@@ -17,6 +17,7 @@ pub mod IpWindow
 pub mod Ipv4
 pub mod Ipv6
 pub mod LaxHeader
+pub mod Numbers
 pub mod PacketGrammar
 pub mod RawExt
 pub mod Tcp

@@ -7,6 +7,7 @@ use Rattle.ether_link.specs.LinkGrammar.{LinkErrors, link_grammar}
 use Rattle.ether_link.specs.declared.layout.Turn.{Turn}
 use Rattle.ether_link.specs.declared.layout.PartKind.{PartKind}
 use Rattle.ether_link.specs.declared.layout.PartKind.TheVariants as kind
+use Rattle.ether_ip.specs.Numbers.{icmp, tcp, udp, icmpv6}
 use Rattle.ether_ip.specs.Ip.{ip_form}
 use Rattle.ether_ip.specs.Icmpv4.{icmpv4_form}
 use Rattle.ether_ip.specs.Icmpv6.{icmpv6_form}
@@ -43,10 +44,10 @@ ip_announced_of other header = None
 -- the transport header that a number names
 abbrev pub transport_kind : ℕ → Option PartKind
 transport_kind number =
-    if number == 1 then Some kind.Icmpv4
-    else (if number == 17 then Some kind.Udp
-    else (if number == 6 then Some kind.Tcp
-    else (if number == 58 then Some kind.Icmpv6 else None)))
+    if number == icmp then Some kind.Icmpv4
+    else (if number == udp then Some kind.Udp
+    else (if number == tcp then Some kind.Tcp
+    else (if number == icmpv6 then Some kind.Icmpv6 else None)))
 
 -- the part that a number names: an extension header, or the transport header unless the packet carries a fragment
 abbrev pub part_turn : ℕ → Bool → Option PartKind → ℕ → Option Turn

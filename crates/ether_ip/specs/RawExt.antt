@@ -6,12 +6,13 @@ use Rattle.ether_link.specs.declared.len_source.LenSource.TheVariants.{Slice}
 use Rattle.ether_link.specs.declared.err.layers.Layer.{Layer}
 use Rattle.ether_link.specs.declared.err.layers.Layer.TheVariants.{Ipv6HopByHopHeader, Ipv6RouteHeader, Ipv6DestOptionsHeader}
 use Rattle.ether_link.specs.declared.err.length.LenError.{LenError}
+use Rattle.ether_ip.specs.Numbers.{hop_by_hop, ipv6_route}
 use Rattle.ether_ip.specs.declared.ip.raw_ext.Ipv6RawExtHeader.{Ipv6RawExtHeader}
 
 -- the layer of a number: 0 is that of hop-by-hop options, 43 that of routing, and 60 that of destination options
 abbrev pub raw_ext_layer : ℕ → Layer
 raw_ext_layer number =
-    if number == 0 then Ipv6HopByHopHeader else (if number == 43 then Ipv6RouteHeader else Ipv6DestOptionsHeader)
+    if number == hop_by_hop then Ipv6HopByHopHeader else (if number == ipv6_route then Ipv6RouteHeader else Ipv6DestOptionsHeader)
 
 -- a header has eight bytes, and as many times eight more as it says
 abbrev pub raw_ext_form : {E : Type 0} → Layer → (LenError → E) → Form E

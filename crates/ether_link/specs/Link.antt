@@ -1,5 +1,5 @@
 -- The header that a frame begins with, of whichever kind.
-use Rattle.std.specs.Prelude.{◌≡◌, ℕ, List, Option, Some, None, false}
+use Rattle.std.specs.Prelude.{◌≡◌, ℕ, List, drop, Option, Some, None, false}
 use Rattle.ether_link.specs.Ethernet2.{ethernet2_header}
 use Rattle.ether_link.specs.LinuxSll.{linux_sll_header}
 use Rattle.ether_link.specs.declared.link.LinkHeader as header
@@ -12,6 +12,13 @@ bytes_of_link (link.TheVariants.Ethernet2 frame) = frame
 bytes_of_link (link.TheVariants.LinuxSll packet) = packet
 bytes_of_link (link.TheVariants.EtherPayload payload) = payload.payload.now
 bytes_of_link (link.TheVariants.LinuxSllPayload payload) = payload.payload.now
+
+-- the bytes behind the header, or all of them where there is none
+abbrev pub payload_of_link : link.LinkSlice → List ℕ
+payload_of_link (link.TheVariants.Ethernet2 frame) = drop 14 frame
+payload_of_link (link.TheVariants.LinuxSll packet) = drop 16 packet
+payload_of_link (link.TheVariants.EtherPayload payload) = payload.payload.now
+payload_of_link (link.TheVariants.LinuxSllPayload payload) = payload.payload.now
 
 -- the fields of its header, if it has one
 abbrev pub IsHeaderOfLink : link.LinkSlice → Option header.LinkHeader → Type 0

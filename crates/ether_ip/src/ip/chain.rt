@@ -19,12 +19,12 @@ use ether_link::{IpNumber, PartKind, Stop};
 pub fn extension_kind(number: IpNumber) -> Option<PartKind>
     ensures { result ≡ extension_kind number.0 }
 {
-    match number.0 {
-        0 => Some(PartKind::LateHopByHop),
-        43 => Some(PartKind::Route),
-        44 => Some(PartKind::Fragment),
-        60 => Some(PartKind::DestinationOptions),
-        51 => Some(PartKind::Ipv6Auth),
+    match number {
+        IpNumber::IPV6_HEADER_HOP_BY_HOP => Some(PartKind::LateHopByHop),
+        IpNumber::IPV6_ROUTE_HEADER => Some(PartKind::Route),
+        IpNumber::IPV6_FRAGMENTATION_HEADER => Some(PartKind::Fragment),
+        IpNumber::IPV6_DESTINATION_OPTIONS => Some(PartKind::DestinationOptions),
+        IpNumber::AUTHENTICATION_HEADER => Some(PartKind::Ipv6Auth),
         _ => None,
     }
 }
@@ -33,7 +33,7 @@ pub fn extension_kind(number: IpNumber) -> Option<PartKind>
 pub fn first_extension_kind(number: IpNumber) -> Option<PartKind>
     ensures { result ≡ first_extension_kind number.0 }
 {
-    if number.0 == 0 {
+    if number == IpNumber::IPV6_HEADER_HOP_BY_HOP {
         Some(PartKind::HopByHop)
     } else {
         extension_kind(number)

@@ -91,7 +91,7 @@ pub fn extension_in(header: &[u8]) -> Option<PartKind>
 {
     if header[0] >> 4 != 4 {
         first_extension_kind(IpNumber(header[6]))
-    } else if header[9] == 51 {
+    } else if header[9] == IpNumber::AUTHENTICATION_HEADER.0 {
         Some(PartKind::Ipv4Auth)
     } else {
         None

@@ -101,9 +101,9 @@ impl<'a> Ipv6RawExtHeaderSlice<'a> {
 fn layer_of(ip_number: IpNumber) -> Layer
     ensures value { result ≡ raw_ext_layer ip_number.0 }
 {
-    match ip_number.0 {
-        0 => Layer::Ipv6HopByHopHeader,
-        43 => Layer::Ipv6RouteHeader,
+    match ip_number {
+        IpNumber::IPV6_HEADER_HOP_BY_HOP => Layer::Ipv6HopByHopHeader,
+        IpNumber::IPV6_ROUTE_HEADER => Layer::Ipv6RouteHeader,
         _ => Layer::Ipv6DestOptionsHeader,
     }
 }

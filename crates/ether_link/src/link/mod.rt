@@ -26,7 +26,7 @@ pub enum LinkSlice<'a> {
 }
 
 impl<'a> LinkSlice<'a> {
-    ghost use Rattle.ether_link.specs.Link.{bytes_of_link, IsHeaderOfLink};
+    ghost use Rattle.ether_link.specs.Link.{bytes_of_link, payload_of_link, IsHeaderOfLink};
 
     /// The whole frame, or the payload where there is no header.
     pub fn slice(&self) -> &'a [u8]
@@ -35,6 +35,18 @@ impl<'a> LinkSlice<'a> {
         match self {
             LinkSlice::Ethernet2(frame) => frame.slice(),
             LinkSlice::LinuxSll(packet) => packet.slice(),
+            LinkSlice::EtherPayload(payload) => payload.payload,
+            LinkSlice::LinuxSllPayload(payload) => payload.payload,
+        }
+    }
+
+    /// The bytes behind the header, or all of them where there is none.
+    pub fn payload(&self) -> &'a [u8]
+        ensures value { result.now ≡ payload_of_link self.now }
+    {
+        match self {
+            LinkSlice::Ethernet2(frame) => frame.payload().payload,
+            LinkSlice::LinuxSll(packet) => packet.payload().payload,
             LinkSlice::EtherPayload(payload) => payload.payload,
             LinkSlice::LinuxSllPayload(payload) => payload.payload,
         }
