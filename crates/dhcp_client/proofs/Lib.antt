@@ -1,2 +1,5 @@
+pub mod EndingLemmas
+pub mod HeardLemmas
 pub mod MessageLemmas
 pub mod PlanLemmas
+pub mod SpanLemmas

@@ -1,5 +1,5 @@
 -- The client as a value, without where its lists lie in memory.
-use Rattle.std.specs.Prelude.{ℕ, ℤ, pos, Bool, true, false, ◌||◌, List, [], int_lt, if◌then◌else◌}
+use Rattle.std.specs.Prelude.{ℕ, ℤ, pos, Bool, true, false, ◌||◌, List, [], Option, None, int_lt, if◌then◌else◌}
 use Rattle.std.specs.Int.{int_min}
 use Rattle.net_wire.specs.declared.address.Ipv4Address.{Ipv4Address}
 use Rattle.dhcp_client.specs.declared.state.ClientState.{ClientState}
@@ -8,12 +8,13 @@ use Rattle.dhcp_client.specs.declared.state.Lease.{Lease}
 use Rattle.dhcp_client.specs.Config.{ClientSettings}
 
 -- the state; the name servers of the lease; whether the configuration changed since the last event; the id of the message
--- sent last; what it was told
+-- sent last; the bytes of its buffer for received packets, if it was given one; what it was told
 pub record Client : Type 0 where
   pub state : ClientState
   pub dns_servers : List Ipv4Address
   pub changed : Bool
   pub transaction_id : ℕ
+  pub packet : Option (List ℕ)
   pub settings : ClientSettings
 
 -- a client that has sent nothing: it discovers at moment 0
@@ -23,6 +24,7 @@ new_client settings = record {
   dns_servers = [];
   changed = true;
   transaction_id = 1;
+  packet = None;
   settings = settings;
 }
 

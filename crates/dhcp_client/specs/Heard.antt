@@ -104,6 +104,14 @@ abbrev pub is_for : Client → Context → Message → Bool
 is_for client cx message =
     pointwise nat_eq message.client_hardware_address.0 cx.hardware_addr.0 && (message.transaction_id == client.transaction_id)
 
+abbrev pub is_named : Option Ipv4Address → Bool
+is_named None = false
+is_named (Some identifier) = true
+
+-- a message of a server to this client is kept, whether it counts in the client's state or not
+abbrev pub is_taken : Client → Context → Message → Bool
+is_taken client cx message = is_for client cx message && is_named message.server_identifier
+
 abbrev pub heard_in : Client → Context → Ipv4Address → Message → Heard
 heard_in client cx source message =
     if is_for client cx message then heard_from client.settings cx.now source message message.server_identifier else Nothing

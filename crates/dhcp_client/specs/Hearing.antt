@@ -1,5 +1,6 @@
 -- What a message does to a client.
-use Rattle.std.specs.Prelude.{ℕ, ◌==◌, ◌&&◌, ◌||◌, ℤ, Bool, not, true, false, nat_eq, List, Option, Some, None}
+use Rattle.std.specs.Prelude.{ℕ, ◌==◌, ◌&&◌, ◌||◌, ℤ, Bool, not, true, false, nat_eq, nat_le, List, ◌++◌, length, drop, Option, Some, None, if◌then◌else◌}
+use Rattle.std.specs.Option.{is_some}
 use Rattle.std.specs.Cmp.Lexicographic.{pointwise}
 use Rattle.net_wire.specs.declared.address.Ipv4Address.{Ipv4Address}
 use Rattle.net_wire.specs.declared.address.Ipv4Cidr.{Ipv4Cidr}
@@ -10,7 +11,7 @@ use Rattle.dhcp_client.specs.declared.state.ClientState.TheVariants.{Discovering
 use Rattle.dhcp_client.specs.declared.state.Lease.{Lease}
 use Rattle.dhcp_client.specs.declared.state.ServerInfo.{ServerInfo}
 use Rattle.dhcp_client.specs.Client.{Client, after_reset}
-use Rattle.dhcp_client.specs.Heard.{Granted, Heard, Nothing, AnOffer, AnAck, ARefusal, heard_in, lease_with}
+use Rattle.dhcp_client.specs.Heard.{Granted, Heard, Nothing, AnOffer, AnAck, ARefusal, heard_in, is_taken, lease_with}
 
 -- one address, one list of them
 abbrev pub same_address : Ipv4Address → Ipv4Address → Bool
@@ -41,12 +42,14 @@ after_offer (Discovering retry_at) server address now client = record client { s
 after_offer (Requesting retry_at retry old requested_ip) server address now client = client
 after_offer (Renewing lease) server address now client = client
 
--- an acknowledgement counts for one that requests or renews; its server stays that of the offer
+-- An acknowledgement counts for one that requests or renews; its server stays that of the offer. A renewed lease changes
+-- the configuration where that differs, or where packets are kept.
 abbrev pub after_ack : ClientState → Granted → Client → Client
 after_ack (Discovering retry_at) granted client = client
 after_ack (Requesting retry_at retry server requested_ip) granted client = with_lease client server granted true
 after_ack (Renewing lease) granted client =
-    with_lease client lease.server granted (client.changed || not (is_same_config lease client.dns_servers granted))
+    with_lease client lease.server granted
+    (client.changed || not (is_same_config lease client.dns_servers granted) || is_some client.packet)
 
 -- and so does a refusal
 abbrev pub after_refusal : ClientState → Client → Client
@@ -60,7 +63,23 @@ after_heard (AnOffer server address) now client = after_offer client.state serve
 after_heard (AnAck granted) now client = after_ack client.state granted client
 after_heard ARefusal now client = after_refusal client.state client
 
--- what arrives from a server's address, and may be no message
-abbrev pub after_message : Client → Context → Ipv4Address → Option Message → Client
-after_message client cx source None = client
-after_message client cx source (Some message) = after_heard (heard_in client cx source message) cx.now client
+-- bytes at the front of a buffer that has room for them, and else the buffer as it was
+abbrev pub laid_over : List ℕ → List ℕ → List ℕ
+laid_over bytes buffer = if nat_le (length bytes) (length buffer) then bytes ++ drop (length bytes) buffer else buffer
+
+abbrev pub laid_in : List ℕ → Option (List ℕ) → Option (List ℕ)
+laid_in bytes None = None
+laid_in bytes (Some buffer) = Some (laid_over bytes buffer)
+
+abbrev pub with_packet : List ℕ → Client → Client
+with_packet bytes client = record client { packet = laid_in bytes client.packet }
+
+-- the bytes of a message are kept where it is taken
+abbrev pub after_bytes : Client → Context → List ℕ → Message → Client
+after_bytes client cx bytes message = if is_taken client cx message then with_packet bytes client else client
+
+-- what arrives from a server's address: bytes, and the message that they are, if they are one
+abbrev pub after_message : Client → Context → Ipv4Address → List ℕ → Option Message → Client
+after_message client cx source bytes None = client
+after_message client cx source bytes (Some message) =
+    after_heard (heard_in client cx source message) cx.now (after_bytes client cx bytes message)

@@ -6,6 +6,7 @@ pub mod Event
 pub mod Heard
 pub mod HeardValue
 pub mod Hearing
+pub mod Lending
 pub mod Messages
 pub mod Plan
 pub mod Retry

@@ -7,6 +7,7 @@ pub mod event;
 mod heard;
 pub mod laws;
 mod messages;
+mod packet;
 mod plan;
 mod planning;
 pub mod retry;

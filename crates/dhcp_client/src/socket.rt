@@ -1,5 +1,6 @@
 //! The client.
-use crate::heard::{Granted, Heard, copy_of, heard_from};
+use crate::heard::{Granted, Heard, heard_from};
+use crate::packet::{lay_over, packet_of};
 use crate::plan::Plan;
 use crate::{ClientConfig, ClientState, Config, DhcpEmit, Event, RetryConfig, ServerInfo};
 use arrayvec::ArrayVec;
@@ -16,10 +17,13 @@ pub struct Socket<'a> {
     pub(crate) config_changed: bool,
     /// Of the message sent last; 1 before any.
     pub(crate) transaction_id: u32,
+    /// Where the message that was taken last is kept.
+    pub(crate) receive_packet_buffer: Option<&'a mut [u8]>,
     pub(crate) config: ClientConfig<'a>,
 }
 
 impl<'a> Model for Socket<'a> {
+    ghost use Rattle.std.specs.Option.{option_map};
     ghost use Rattle.dhcp_client.specs.Client.{Client};
     ghost use Rattle.dhcp_client.specs.Config.{client_settings, IsRequestList};
 
@@ -30,6 +34,7 @@ impl<'a> Model for Socket<'a> {
       dns_servers = s.dns_servers.items;
       changed = s.config_changed;
       transaction_id = s.transaction_id;
+      packet = option_map (λ b. b.now) s.receive_packet_buffer;
       settings = client_settings s.config;
     } };
 
@@ -38,15 +43,17 @@ impl<'a> Model for Socket<'a> {
 
 impl<'a> Socket<'a> {
     ghost use Rattle.std.specs.Prelude.{◌≡◌, false, map};
+    ghost use Rattle.std.specs.Borrow.{sem};
     ghost use Rattle.std.specs.Option.{option_map};
     ghost use Rattle.net_wire.specs.DhcpMessage.{message_of, option_value};
     ghost use Rattle.net_wire.specs.DhcpRead.{message_at};
     ghost use Rattle.dhcp_client.specs.Client.{new_client, poll_at_of, after_reset};
     ghost use Rattle.dhcp_client.specs.Config.{AreSettingsWritable, IsRequestList, client_settings, default_settings};
-    ghost use Rattle.dhcp_client.specs.Event.{event_of, told_by};
-    ghost use Rattle.dhcp_client.specs.Heard.{heard_in, is_for};
+    ghost use Rattle.dhcp_client.specs.Event.{configuration_of, event_of, told_by};
+    ghost use Rattle.dhcp_client.specs.Heard.{heard_in, is_for, is_taken};
     ghost use Rattle.dhcp_client.specs.HeardValue.{granted_value, heard_value};
-    ghost use Rattle.dhcp_client.specs.Hearing.{after_ack, after_heard, after_message, after_offer, after_refusal};
+    ghost use Rattle.dhcp_client.specs.Hearing.{after_ack, after_heard, after_message, after_offer, after_refusal, with_packet};
+    ghost use Rattle.dhcp_client.specs.Lending.{RestsTold};
     ghost use Rattle.dhcp_client.specs.Plan.{Dispatched, plan_for};
 
     /// A client that was told nothing: it discovers at moment 0.
@@ -77,6 +84,7 @@ impl<'a> Socket<'a> {
             dns_servers: ArrayVec::new(),
             config_changed: true,
             transaction_id: 1,
+            receive_packet_buffer: None,
             config: ClientConfig {
                 retry,
                 server_port,
@@ -106,6 +114,13 @@ impl<'a> Socket<'a> {
         ensures { self.new ≡ record self.old { settings = record self.old.settings { options = map option_value options.entry.now } } }
     {
         self.config.options = options;
+    }
+
+    /// Messages that are taken are laid to its front, where it has room for them; an event shows the whole of it.
+    pub fn set_receive_packet_buffer(&mut self, buffer: &'a mut [u8])
+        ensures { self.new ≡ record self.old { packet = Some buffer.old } }
+    {
+        self.receive_packet_buffer = Some(buffer);
     }
 
     /// The options that servers are asked for (RFC 2132, section 9.8).
@@ -166,24 +181,31 @@ impl<'a> Socket<'a> {
     }
 
     /// The configuration, where it changed since the last event.
-    pub fn poll(&mut self) -> Option<Event>
+    pub fn poll(&mut self) -> Option<Event<'_>>
         ensures value { option_map told_by result ≡ event_of self.old }
-        ensures others { self.new ≡ record self.old { changed = false } }
+        ensures* others { sem 𝓛 (RestsTold self.entry) }
     {
         if !self.config_changed {
             return None;
         }
-        let _options = self.config.options;
         self.config_changed = false;
+        Some(self.event())
+    }
+
+    /// The configuration.
+    fn event(&self) -> Event<'_>
+        ensures { told_by result ≡ configuration_of self.now }
+    {
         match self.state {
-            ClientState::Discovering { .. } => Some(Event::Deconfigured),
-            ClientState::Requesting { .. } => Some(Event::Deconfigured),
-            ClientState::Renewing(lease) => Some(Event::Configured(Config {
+            ClientState::Discovering { .. } => Event::Deconfigured,
+            ClientState::Requesting { .. } => Event::Deconfigured,
+            ClientState::Renewing(lease) => Event::Configured(Config {
                 server: lease.server,
                 address: lease.address,
                 router: lease.router,
-                dns_servers: copy_of(&self.dns_servers),
-            })),
+                dns_servers: self.dns_servers.as_slice(),
+                packet: packet_of(&self.receive_packet_buffer),
+            }),
         }
     }
 
@@ -201,11 +223,15 @@ impl<'a> Socket<'a> {
     /// Takes in what arrived from a server's port and address; bytes that are no message of a server to this client, or
     /// none that counts now, change nothing.
     pub fn process(&mut self, cx: &Context, src: Ipv4Address, payload: &[u8])
-        ensures value { self.new ≡ after_message self.old cx.entry.now src (message_at payload.entry.now) }
+        ensures value { self.new
+            ≡ after_message self.old cx.entry.now src payload.entry.now (message_at payload.entry.now) }
         ensures others { self.new.settings ≡ self.old.settings }
     {
         if let Ok(message) = DhcpRepr::parse(payload) {
             let heard = self.heard(cx, src, &message);
+            if self.is_taken(cx, &message) {
+                self.keep(payload);
+            }
             self.take(cx.now, heard);
         }
     }
@@ -227,6 +253,22 @@ impl<'a> Socket<'a> {
     {
         message.client_hardware_address == cx.hardware_addr
             && message.transaction_id == self.transaction_id
+    }
+
+    /// Whether a message is one of a server to this client.
+    fn is_taken(&self, cx: &Context, message: &DhcpRepr<'_>) -> bool
+        ensures { result ≡ is_taken self.now cx.entry.now (message_of message.entry.now) }
+    {
+        self.is_for(cx, message) && message.server_identifier.is_some()
+    }
+
+    /// Keeps the bytes of a message.
+    fn keep(&mut self, bytes: &[u8])
+        ensures { self.new ≡ with_packet bytes.now self.old }
+    {
+        if let Some(buffer) = &mut self.receive_packet_buffer {
+            lay_over(buffer, bytes);
+        }
     }
 
     fn take(&mut self, now: Instant, heard: Heard)
@@ -270,9 +312,10 @@ impl<'a> Socket<'a> {
             ClientState::Renewing(lease) => {
                 let _options = self.config.options;
                 let same = granted.is_same_config(&lease, &self.dns_servers);
+                let keeps = self.receive_packet_buffer.is_some();
                 self.state = ClientState::Renewing(granted.lease(lease.server));
                 self.dns_servers = granted.dns_servers;
-                self.config_changed = self.config_changed || !same;
+                self.config_changed = self.config_changed || !same || keeps;
             }
         }
     }

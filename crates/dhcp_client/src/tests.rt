@@ -2,7 +2,6 @@
 ghost use Rattle.std.specs.Prelude.{◌≡◌, ⊤};
 
 use crate::{Config, DhcpEmit, Event, ServerInfo, Socket};
-use arrayvec::ArrayVec;
 use net_wire::{
     Context, DhcpRepr, EmitError, EthernetAddress, Instant, Ipv4Address, Ipv4Cidr, Ipv4Repr,
     UdpRepr,
@@ -143,8 +142,6 @@ fn a_lease_is_renewed_and_ends(rt: HostRuntime) {
     socket.process(&at(0), SERVER, &reply(5, 2));
     assert_eq!(rt; socket.poll(), None);
     socket.process(&at(0), SERVER, &reply(5, 1));
-    let mut dns_servers = ArrayVec::new();
-    dns_servers.push(Ipv4Address([192, 168, 1, 53]));
     let config = Config {
         server: ServerInfo {
             address: SERVER,
@@ -155,7 +152,8 @@ fn a_lease_is_renewed_and_ends(rt: HostRuntime) {
             prefix_len: 24,
         },
         router: Some(SERVER),
-        dns_servers,
+        dns_servers: &[Ipv4Address([192, 168, 1, 53])],
+        packet: None,
     };
     assert_eq!(rt; socket.poll(), Some(Event::Configured(config)));
     assert_eq!(rt; socket.poll(), None);
