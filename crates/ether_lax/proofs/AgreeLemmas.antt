@@ -12,7 +12,7 @@ use Rattle.ether_ip.specs.declared.err.packet.SliceError.{SliceError}
 use Rattle.ether_ip.specs.declared.ip.ext_places.ExtensionPlaces.{ExtensionPlaces}
 use Rattle.ether_ip.specs.declared.transport.TransportSlice.{TransportSlice}
 use Rattle.ether_ip.proofs.PacketLemmas.{packets_orderly}
-use Rattle.ether_lax.specs.Agreement.{Agree, AgreeNets, AreFree, CarriesSame, FindsPlaces, HoldsChain}
+use Rattle.ether_lax.specs.Agreement.{Agree, AgreeNets, AgreeOn, AreFree, CarriesSame, FindsPlaces, HoldsChain}
 use Rattle.ether_lax.specs.Found.{Parts, no_parts, parts_of}
 use Rattle.ether_lax.specs.Headers.{HeaderParts, HoldsHeaders, headers_in, headers_of, net_headers, carried_of, lacks_bytes}
 use Rattle.ether_lax.specs.LinkExts.{LinkExtPart, header_of_ext}
@@ -78,8 +78,7 @@ module _ (frame : List ℕ) (first : Option Turn) (start : Carried) (places : Li
       rw (parts_are, all) (same_parts, carries frame w.held start w.transport w.ip w.arp w.carried)
 
 pub agreed : (frame : List ℕ) (first : Option Turn) (start : Carried) (packet : LaxSlicedPacket) (headers : LaxPacketHeaders)
-    → HoldsLayout frame first packet → HoldsHeaders frame first start headers → FindsPlaces frame first
-    → Agree (sliced_in packet) (headers_in headers) × CarriesSame packet.transport (option_map net_in packet.net) (carried_in headers.payload)
+    → HoldsLayout frame first packet → HoldsHeaders frame first start headers → FindsPlaces frame first → AgreeOn packet headers
 agreed frame first start packet headers holds holds_headers finds =
     let same = one packet_grammar frame first 0 (length frame) holds_headers.places holds.places holds_headers.stop holds.stop holds_headers.layout holds.layout in
     let free = finds holds.places holds.stop holds.layout in

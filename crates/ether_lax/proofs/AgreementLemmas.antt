@@ -16,6 +16,7 @@ use Rattle.ether_link.specs.declared.layout.Turn.{Turn}
 use Rattle.ether_link.proofs.FormLemmas.{has_header}
 use Rattle.ether_link.proofs.RangeLemmas.{range_range, header_is}
 use Rattle.ether_ip.specs.ExtensionGrammar.{first_extension_kind}
+use Rattle.ether_ip.specs.Extensions.{bytes_of_extension, extension_slice, fragmented_by}
 use Rattle.ether_ip.specs.Held.{no_extensions, is_extension, is_taken, with_extension, with_header, held_by, free_places, free_stop, extensions_of}
 use Rattle.ether_ip.specs.IpHeaders.{is_ipv4, number_in, extension_in, is_fragment_in}
 use Rattle.ether_ip.specs.PacketGrammar.{packet_grammar, part_turn}
@@ -104,17 +105,23 @@ module _ (frame : List ℕ) (a to : ℕ) where
           (later p start inside.1 begins) inside.2 inside.4 there_is free.1) (is_extension p.kind) within
 
 -- what an extension header and a transport header leave
+abbrev moved_ip : Place → Ipv6ExtensionSlice → FoundIp → FoundIp
+moved_ip p ext ip = record ip {
+  last = p;
+  number = record { 0 = slice_index (bytes_of_extension ext) 0 };
+  fragmented = fragmented_by ip.fragmented ext;
+}
+
 ext_found : (frame : List ℕ) (p : Place) (w : Parts) (ip : FoundIp) (part_kind : PartKind) (header whole : List ℕ) → is_extension part_kind ≡ true → w.ip ≡ Some ip
-    → (found : FoundIp) × ((with_part frame p (part_in part_kind header whole) w).ip ≡ Some found) × (found.header ≡ ip.header)
-    × (found.first ≡ ip.first) × (found.last ≡ p)
-ext_found frame p w ip kind.HopByHop header whole ext is = (_, (rw is refl, refl, refl, refl))
-ext_found frame p w ip kind.LateHopByHop header whole ext is = (_, (rw is refl, refl, refl, refl))
-ext_found frame p w ip kind.Route header whole ext is = (_, (rw is refl, refl, refl, refl))
-ext_found frame p w ip kind.DestinationOptions header whole ext is = (_, (rw is refl, refl, refl, refl))
-ext_found frame p w ip kind.Fragment header whole ext is = (_, (rw is refl, refl, refl, refl))
-ext_found frame p w ip kind.Ipv4Auth header whole ext is = (_, (rw is refl, refl, refl, refl))
-ext_found frame p w ip kind.Ipv6Auth header whole ext is = (_, (rw is refl, refl, refl, refl))
-ext_found frame p w ip other header whole ext is = absurd (cc)
+    → (with_part frame p (part_in part_kind header whole) w).ip ≡ Some (moved_ip p (extension_slice part_kind header) ip)
+ext_found frame p w ip kind.HopByHop bytes whole ext is = rw is refl
+ext_found frame p w ip kind.LateHopByHop bytes whole ext is = rw is refl
+ext_found frame p w ip kind.Route bytes whole ext is = rw is refl
+ext_found frame p w ip kind.DestinationOptions bytes whole ext is = rw is refl
+ext_found frame p w ip kind.Fragment bytes whole ext is = rw is refl
+ext_found frame p w ip kind.Ipv4Auth bytes whole ext is = rw is refl
+ext_found frame p w ip kind.Ipv6Auth bytes whole ext is = rw is refl
+ext_found frame p w ip other bytes whole ext is = absurd (cc)
 
 ext_behind : (part_kind : PartKind) (header : List ℕ) → is_extension part_kind ≡ true → 3 ≤ behind part_kind header
 ext_behind kind.HopByHop header ext = omega arith
@@ -141,7 +148,7 @@ last_part frame p w r kind.Ip header whole no_ext high ranked = absurd (omega ar
 last_part frame p w r other header whole no_ext high ranked = absurd (cc)
 
 -- how far the extension headers behind an IP header reach, and the same ones in their places
-record IsChainFound (frame : List ℕ) (a to : ℕ) (ip : FoundIp) (ends : ℕ) (held : ExtensionPlaces) (places : List Place) (final : Parts) : Type 0 where
+pub record IsChainFound (frame : List ℕ) (a to : ℕ) (ip : FoundIp) (ends : ℕ) (held : ExtensionPlaces) (places : List Place) (final : Parts) : Type 0 where
   pub found : FoundIp
   pub is : final.ip ≡ Some found
   pub header : found.header ≡ ip.header
@@ -162,17 +169,19 @@ module _ (frame : List ℕ) (a to : ℕ) where
       × (final.held ≡ held_by (slice_range frame a to) w.held (if b then (there frame a to p ∷ chain_places a to ps) else []))
   found_if p ps r start end w ip begins high parts inside is at_start again true ext within final final_is =
       let one = ext_found frame p w ip p.kind (header_at frame p) (whole_at frame p) ext is in
+      let next = moved_ip p (extension_slice p.kind (header_at frame p)) ip in
       let low = (chain_within ps p.body p.end inside.2 inside.4).0 in
       let order = inside.1 in
       let begin = inside.0 in
-      let rest = again one.0 one.1 (ap (λ (q : Place). q.body) one.4) within (ext_behind p.kind (header_at frame p) ext) in
+      let rest = again next one refl within (ext_behind p.kind (header_at frame p) ext) in
       let same = header_there frame a to p (omega arith) (omega arith) (omega arith) in
-      (rest.found, (rw final_is rest.is, rest.header ∙ one.2, rest.first ∙ one.3, rest.last,
-          rw (final_is, same, ← held_with frame p w) rest.held_is))
+      let moved = ap (λ h. held_by (slice_range frame a to) (with_header p.kind h w.held) (chain_places a to ps)) same in
+      let kept = ap (λ held. held_by (slice_range frame a to) held (chain_places a to ps)) (held_with frame p w) in
+      (rest.found, rw final_is (rest.is), rest.header, rest.first, rest.last, rw final_is (rest.held_is ∙ kept ∙ sym moved))
   found_if p ps r start end w ip begins high parts inside is at_start again false ext within final final_is =
       let one = last_part frame p w r p.kind (header_at frame p) (whole_at frame p) ext high parts.0.ranked in
       let none = none_behind frame p.body p.end ps (rw (one.1) at (parts.1)) in
-      (ip, (rw (final_is, none) (one.0 ∙ is), refl, refl, at_start, rw (final_is, none) (held_with frame p w ∙ one.2)))
+      (ip, rw (final_is, none) (one.0 ∙ is), refl, refl, at_start, rw (final_is, none) (held_with frame p w ∙ one.2))
 
   pub chain_found : (ps : List Place) (r start end : ℕ) (w : Parts) (ip : FoundIp) → a ≤ start → 3 ≤ r → AreParts frame r start end ps → AreNested start end ps
       → w.ip ≡ Some ip → ip.last.body ≡ start → chain_end start ps ≤ to
@@ -230,26 +239,26 @@ ip_kind other is = absurd (cc)
 
 none_ip : (frame : List ℕ) (p : Place) (w : Parts) (part_kind : PartKind) (header whole : List ℕ) → is_ip_kind part_kind ≡ false → w.ip ≡ None
     → (with_part frame p (part_in part_kind header whole) w).ip ≡ None
-none_ip frame p w kind.Ethernet2 header whole no is = is
-none_ip frame p w kind.LinuxSll header whole no is = is
-none_ip frame p w kind.Vlan header whole no is = is
-none_ip frame p w kind.Macsec header whole no is = is
-none_ip frame p w kind.Arp header whole no is = is
-none_ip frame p w kind.Ip header whole no is = absurd (cc)
-none_ip frame p w kind.Udp header whole no is = is
-none_ip frame p w kind.Tcp header whole no is = is
-none_ip frame p w kind.Icmpv4 header whole no is = is
-none_ip frame p w kind.Icmpv6 header whole no is = is
-none_ip frame p w other header whole no is = rw is refl
+none_ip frame p w kind.Ethernet2 header whole other_kind is = is
+none_ip frame p w kind.LinuxSll header whole other_kind is = is
+none_ip frame p w kind.Vlan header whole other_kind is = is
+none_ip frame p w kind.Macsec header whole other_kind is = is
+none_ip frame p w kind.Arp header whole other_kind is = is
+none_ip frame p w kind.Ip header whole other_kind is = absurd (cc)
+none_ip frame p w kind.Udp header whole other_kind is = is
+none_ip frame p w kind.Tcp header whole other_kind is = is
+none_ip frame p w kind.Icmpv4 header whole other_kind is = is
+none_ip frame p w kind.Icmpv6 header whole other_kind is = is
+none_ip frame p w other header whole other_kind is = rw is refl
 
 low_held : (part_kind : PartKind) (header : List ℕ) (held : ExtensionPlaces) (r : ℕ) → is_ip_kind part_kind ≡ false → r ≤ rank part_kind
     → (r ≤ 2 → held ≡ no_extensions) → behind part_kind header ≤ 2 → with_header part_kind header held ≡ no_extensions
-low_held kind.Ethernet2 header held r no ranked is low = is (omega arith)
-low_held kind.LinuxSll header held r no ranked is low = is (omega arith)
-low_held kind.Vlan header held r no ranked is low = is (omega arith)
-low_held kind.Macsec header held r no ranked is low = is (omega arith)
-low_held kind.Ip header held r no ranked is low = absurd (cc)
-low_held other header held r no ranked is low = absurd (omega arith)
+low_held kind.Ethernet2 header held r other_kind ranked is low = is (omega arith)
+low_held kind.LinuxSll header held r other_kind ranked is low = is (omega arith)
+low_held kind.Vlan header held r other_kind ranked is low = is (omega arith)
+low_held kind.Macsec header held r other_kind ranked is low = is (omega arith)
+low_held kind.Ip header held r other_kind ranked is low = absurd (cc)
+low_held other header held r other_kind ranked is low = absurd (omega arith)
 
 version_at : (frame : List ℕ) (p : Place) (w : Parts) (part_kind : PartKind) (header whole : List ℕ) (b : Bool) → part_kind ≡ kind.Ip → is_ipv4 header ≡ b
     → with_part frame p (part_in part_kind header whole) w ≡ with_part frame p (if b then part.Ipv4 header else part.Ipv6 header) w

@@ -99,8 +99,16 @@ empty_layout : (bytes : List ℕ) (at : ℕ) (turn : Option Turn) → (stop : Op
 empty_layout bytes at None = (None, refl)
 empty_layout bytes at (Some turn) = nothing_left bytes at turn (refusal (packet_grammar.form_of turn.kind) (slice_range bytes at at)) refl
 
+place_in_chain : (part : PartKind) (bytes whole : List ℕ) (start body to a : ℕ) → is_extension part ≡ true
+    → header_len (packet_grammar.form_of part) bytes ≡ header_len (packet_grammar.form_of part) whole
+    → body ≡ start + header_len (packet_grammar.form_of part) whole → a ≤ start
+    → record { kind = part; start = start - a; body = body - a; end = to - a } ≡ place_of packet_grammar part bytes (start - a) (to - a)
+place_in_chain part bytes whole start body to a ext same is begins =
+    let at_body : body - a ≡ start - a + header_len (packet_grammar.form_of part) bytes = omega arith in
+    rw (ext_silent part (header packet_grammar part bytes) ext, at_body) refl
+
 module _ (frame : List ℕ) (a to : ℕ) where
-  HasChain : Option Turn → ℕ → List Place → Type 0
+  abbrev pub HasChain : Option Turn → ℕ → List Place → Type 0
   HasChain turn start places =
       (stop : Option (Stop SliceError)) × IsLayoutFrom packet_grammar (slice_range frame a to) turn (start - a) (to - a) places stop
 
@@ -127,14 +135,16 @@ module _ (frame : List ℕ) (a to : ℕ) where
       let accepted_there = kept_part (packet_grammar.form_of turn.kind) (to - start) (slice_range frame start end) open_end accepted (omega arith) in
       let same = same_part (packet_grammar.form_of turn.kind) (to - start) (slice_range frame start end) open_end accepted_there in
       let len = same.same_len in
-      let body_there : p.body - a ≡ start - a + header_len (packet_grammar.form_of turn.kind) (slice_range frame start end) = omega arith in
+      let len_there : header_len (packet_grammar.form_of turn.kind) (slice_range (slice_range frame a to) (start - a) (to - a))
+          ≡ header_len (packet_grammar.form_of turn.kind) (slice_range frame start end)
+      = ap (header_len (packet_grammar.form_of turn.kind)) bytes ∙ sym same.same_len in
+      let place = place_in_chain turn.kind (slice_range (slice_range frame a to) (start - a) (to - a)) (slice_range frame start end) start p.body to a
+          ext len_there body begins in
+      let header_there : header packet_grammar turn.kind (slice_range (slice_range frame a to) (start - a) (to - a))
+          ≡ header packet_grammar turn.kind (slice_range frame start end)
+      = ap (header packet_grammar turn.kind) bytes ∙ same.same_header in
       let next = next_zero turn.kind turn.link_exts turn.fragmented (header packet_grammar turn.kind (slice_range frame start end)) ext in
-      (rest.0, (
-        rw bytes accepted_there,
-        (rw (bytes, at_kind, at_start, body_there, ← same.same_len,
-            ext_silent turn.kind (header packet_grammar turn.kind (take (to - start) (slice_range frame start end))) ext) refl),
-        (rw (bytes, same.same_header, next) rest.1),
-      ))
+      (rest.0, (rw bytes accepted_there, rw (at_kind, at_start) place, rw (header_there, next) (rest.1)))
 
   chain_by : (p : Place) (ps : List Place) (turn : Turn) (start end : ℕ) → a ≤ start → start ≤ end → AreNested start end (p ∷ ps)
       → refusal (packet_grammar.form_of turn.kind) (slice_range frame start end) ≡ None

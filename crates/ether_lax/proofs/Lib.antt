@@ -8,6 +8,7 @@ pub mod FoundLemmas
 pub mod IpLemmas
 pub mod MapLemmas
 pub mod RankLemmas
+pub mod OneIpLemmas
 pub mod ReadLemmas
 pub mod StepLemmas
 pub mod WalkLemmas

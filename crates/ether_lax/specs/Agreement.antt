@@ -23,23 +23,27 @@ use Rattle.ether_ip.specs.declared.ip.exts.Ipv6Extensions.{Ipv6Extensions}
 use Rattle.ether_ip.specs.declared.net_headers.NetHeaders.{NetHeaders}
 use Rattle.ether_ip.specs.declared.net_headers.NetHeaders.TheVariants as net
 use Rattle.ether_ip.specs.declared.transport.TransportSlice.{TransportSlice}
-use Rattle.ether_lax.specs.Headers.{HeaderParts}
+use Rattle.ether_lax.specs.Headers.{HeaderParts, headers_in}
 use Rattle.ether_lax.specs.LinkExts.{header_of_ext}
-use Rattle.ether_lax.specs.Nets.{NetPart, Ipv4Part, Ipv6Part, ArpPart, ChainPart}
-use Rattle.ether_lax.specs.Payloads.{Carried, OfIp, bytes_of_carried}
-use Rattle.ether_lax.specs.Sliced.{SlicedParts}
+use Rattle.ether_lax.specs.Nets.{NetPart, Ipv4Part, Ipv6Part, ArpPart, ChainPart, net_in}
+use Rattle.ether_lax.specs.Payloads.{Carried, OfIp, bytes_of_carried, carried_in}
+use Rattle.ether_lax.specs.Sliced.{SlicedParts, sliced_in}
+use Rattle.ether_lax.specs.declared.packet_headers.LaxPacketHeaders.{LaxPacketHeaders}
+use Rattle.ether_lax.specs.declared.sliced_packet.LaxSlicedPacket.{LaxSlicedPacket}
 
 -- each extension header of some places finds its own place free, and so does the refused one
 abbrev pub AreFree : List ℕ → ExtensionPlaces → List Place → Option (Stop SliceError) → Type 0
 AreFree bytes held [] None = Unit {0}
 AreFree bytes held [] (Some stop) = is_taken stop.kind held ≡ false
 AreFree bytes held (place ∷ more) stop =
-    (is_taken place.kind held ≡ false) × AreFree bytes (with_header place.kind (header_at bytes place) held) more stop
+    (is_taken place.kind held ≡ false)
+    × AreFree bytes (with_header place.kind (header_at bytes place) held) more stop
 
 -- so it is in the layout of the bytes from a turn on
 abbrev pub FindsPlaces : List ℕ → Option Turn → Type 0
 FindsPlaces frame first = (places : List Place) (stop : Option (Stop SliceError))
-    → IsLayoutFrom packet_grammar frame first 0 (length frame) places stop → AreFree frame no_extensions places stop
+    → IsLayoutFrom packet_grammar frame first 0 (length frame) places stop
+    → AreFree frame no_extensions places stop
 
 -- the turn of the part that the first number of a chain names
 abbrev pub chain_turn : Option IpNumber → Option Turn
@@ -50,7 +54,8 @@ chain_turn (Some number) = part_turn 0 false (first_extension_kind number.0) num
 pub record HoldsChain (chain : ChainPart) (exts : Ipv6Extensions) : Type 0 where
   pub places : List Place
   pub stop : Option (Stop SliceError)
-  pub layout : IsLayoutFrom packet_grammar chain.bytes (chain_turn chain.first) 0 (length chain.bytes) places stop
+  pub layout : IsLayoutFrom packet_grammar chain.bytes (chain_turn chain.first) 0 (length chain.bytes)
+      places stop
   pub free : AreFree chain.bytes no_extensions places None
   pub holds : exts ≡ extensions_of (held_by chain.bytes no_extensions places)
 
@@ -59,7 +64,8 @@ abbrev pub AgreeNets : Option NetPart → Option NetHeaders → Type 0
 AgreeNets None None = Unit {0}
 AgreeNets (Some (Ipv4Part bytes auth payload)) (Some (net.Ipv4 header exts)) =
     (ipv4_header bytes ≡ header) × (option_map auth_header auth ≡ exts.auth)
-AgreeNets (Some (Ipv6Part bytes chain payload)) (Some (net.Ipv6 header exts)) = (ipv6_header bytes ≡ header) × HoldsChain chain exts
+AgreeNets (Some (Ipv6Part bytes chain payload)) (Some (net.Ipv6 header exts)) =
+    (ipv6_header bytes ≡ header) × HoldsChain chain exts
 AgreeNets (Some (ArpPart bytes)) (Some (net.Arp packet)) = arp_packet bytes ≡ packet
 AgreeNets part headers = ⊥
 
@@ -87,3 +93,9 @@ CarriesSame (Some part) net carried = bytes_of_carried carried ≡ payload_of_tr
 CarriesSame None (Some (Ipv4Part bytes auth payload)) carried = carried ≡ OfIp payload
 CarriesSame None (Some (Ipv6Part bytes chain payload)) carried = carried ≡ OfIp payload
 CarriesSame None other carried = Unit {0}
+
+-- the two dissections agree
+abbrev pub AgreeOn : LaxSlicedPacket → LaxPacketHeaders → Type 0
+AgreeOn packet headers =
+    Agree (sliced_in packet) (headers_in headers)
+    × CarriesSame packet.transport (option_map net_in packet.net) (carried_in headers.payload)

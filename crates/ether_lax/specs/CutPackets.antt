@@ -32,7 +32,8 @@ abbrev pub IsCutExt : LinkExtPart → LinkExtPart → Type 0
 IsCutExt (TagPart kept) (TagPart bytes) = (take 4 kept ≡ take 4 bytes) × IsFront kept bytes
 IsCutExt (SecuredPart kept_header kept) (SecuredPart header payload) =
     (kept_header ≡ header) × (kept.ether_type ≡ payload.ether_type) × IsFront kept.bytes payload.bytes
-IsCutExt (ModifiedPart kept_header lacks kept) (ModifiedPart header incomplete bytes) = (kept_header ≡ header) × IsFront kept bytes
+IsCutExt (ModifiedPart kept_header lacks kept) (ModifiedPart header incomplete bytes) =
+    (kept_header ≡ header) × IsFront kept bytes
 IsCutExt kept ext = ⊥
 
 -- the link extensions of the first bytes are a front of those of all
@@ -46,9 +47,10 @@ abbrev pub last_header : Option FoundIp → Option Place
 last_header None = None
 last_header (Some ip) = Some ip.last
 
--- the IP payload in the first n bytes and in all: it begins behind the last header in each, so earlier exactly where the first n bytes
--- end before the last header of all does; and else it is a front
-pub record IsCutPayload (frame : List ℕ) (n : ℕ) (at : Option Place) (last : Option Place) (kept payload : List ℕ) : Type 0 where
+-- the IP payload in the first n bytes and in all: it begins behind the last header in each, so earlier
+-- exactly where the first n bytes end before the last header of all does; and else it is a front
+pub record IsCutPayload (frame : List ℕ) (n : ℕ) (at last : Option Place) (kept payload : List ℕ)
+    : Type 0 where
   pub kept_place : Place
   pub place : Place
   pub at_is : at ≡ Some kept_place
@@ -63,30 +65,36 @@ pub record IsCutPayload (frame : List ℕ) (n : ℕ) (at : Option Place) (last :
 abbrev pub IsCutNet : List ℕ → ℕ → Option Place → Option Place → Option NetPart → Option NetPart → Type 0
 IsCutNet frame n at last None net = Unit {0}
 IsCutNet frame n at last (Some (Ipv4Part kept_header kept_auth kept)) (Some (Ipv4Part header auth payload)) =
-    (kept_header ≡ header) × IsKept kept_auth auth × IsCutPayload frame n at last kept.bytes payload.bytes
-IsCutNet frame n at last (Some (Ipv6Part kept_header kept_chain kept)) (Some (Ipv6Part header chain payload)) =
-    (kept_header ≡ header) × IsFront kept_chain.bytes chain.bytes × IsCutPayload frame n at last kept.bytes payload.bytes
+    (kept_header ≡ header) × IsKept kept_auth auth
+    × IsCutPayload frame n at last kept.bytes payload.bytes
+IsCutNet frame n at last (Some (Ipv6Part kept_header kept_exts kept)) (Some (Ipv6Part header exts payload)) =
+    (kept_header ≡ header) × IsFront kept_exts.bytes exts.bytes
+    × IsCutPayload frame n at last kept.bytes payload.bytes
 IsCutNet frame n at last (Some (ArpPart kept)) (Some (ArpPart packet)) = kept ≡ packet
 IsCutNet frame n at last kept net = ⊥
 
--- the part of the transport layer: the same header of UDP and TCP, and a window that is a front; nothing is said of ICMP
+-- the part of the transport layer: the same header of UDP and TCP, and a window that is a front; nothing is
+-- said of ICMP
 abbrev pub IsCutTransport : Option TransportSlice → Option TransportSlice → Type 0
 IsCutTransport None part = Unit {0}
 IsCutTransport (Some (Icmpv4 kept)) part = Unit {0}
 IsCutTransport (Some (Icmpv6 kept)) part = Unit {0}
 IsCutTransport (Some (Udp kept)) (Some (Udp bytes)) = (take 8 kept ≡ take 8 bytes) × IsFront kept bytes
 IsCutTransport (Some (Tcp kept)) (Some (Tcp bytes)) =
-    (take (header_len tcp_slice_form kept) kept ≡ take (header_len tcp_slice_form bytes) bytes) × IsFront kept bytes
+    (take (header_len tcp_slice_form kept) kept ≡ take (header_len tcp_slice_form bytes) bytes)
+    × IsFront kept bytes
 IsCutTransport kept part = ⊥
 
 -- the packet of the first n bytes of a frame, and that of all bytes, by the layouts of both
 pub record IsCutPacket (frame : List ℕ) (n : ℕ) (kept packet : SlicedParts) : Type 0 where
   pub kept_places : List Place
   pub kept_stop : Option (Stop SliceError)
-  pub kept_layout : IsLayoutFrom packet_grammar (take n frame) (begins_with Ethernet2) 0 (length (take n frame)) kept_places kept_stop
+  pub kept_layout : IsLayoutFrom packet_grammar (take n frame) (begins_with Ethernet2) 0
+      (length (take n frame)) kept_places kept_stop
   pub places : List Place
   pub stop : Option (Stop SliceError)
   pub layout : IsLayoutFrom packet_grammar frame (begins_with Ethernet2) 0 (length frame) places stop
   pub exts : AreCutExts kept.exts packet.exts
-  pub net : IsCutNet frame n (last_header (parts_of (take n frame) kept_places).ip) (last_header (parts_of frame places).ip) kept.net packet.net
+  pub net : IsCutNet frame n (last_header (parts_of (take n frame) kept_places).ip)
+      (last_header (parts_of frame places).ip) kept.net packet.net
   pub transport : IsCutTransport kept.transport packet.transport

@@ -1,4 +1,5 @@
--- What a host looks for in a packet that carries no tag: an ARP packet, or a whole UDP datagram right behind an IPv4 header (RFC 826; RFC 791; RFC 768).
+-- What a host looks for in a packet that carries no tag: an ARP packet, or a whole UDP datagram right behind
+-- an IPv4 header (RFC 826; RFC 791; RFC 768).
 use Rattle.std.specs.Prelude.{ℕ, ◌==◌, Bool, true, false, ◌&&◌, if◌then◌else◌, List, [], ◌∷◌, length, Option, Some, None}
 use Rattle.wire_base.specs.Bytes.{be16_at}
 use Rattle.ether_link.specs.declared.len_source.LenSource.{LenSource}
@@ -31,7 +32,8 @@ pub record DatagramPart : Type 0 where
 
 abbrev pub datagram_by : Option NetPart → Option TransportSlice → Option DatagramPart
 datagram_by (Some (Ipv4Part header None payload)) (Some (Udp bytes)) =
-    if is_by_total_length payload.source && is_by_length bytes then Some (record { header = header; udp = bytes }) else None
+    if is_by_total_length payload.source && is_by_length bytes
+    then Some (record { header = header; udp = bytes }) else None
 datagram_by net transport = None
 
 -- what stands in a packet without link extensions

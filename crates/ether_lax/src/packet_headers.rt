@@ -1,5 +1,5 @@
 //! The headers of packets as structs.
-ghost use Rattle.std.specs.Prelude.{◌≡◌, Some, None, false, drop};
+ghost use Rattle.std.specs.Prelude.{◌≡◌, IfOk, Some, None, false, drop};
 ghost use Rattle.wire_base.specs.Bytes.{be16_at};
 ghost use Rattle.ether_link.specs.Form.{Reads, no_map};
 ghost use Rattle.ether_link.specs.Ethernet2.{ethernet2_form, ethernet2_header};
@@ -37,9 +37,12 @@ pub struct LaxPacketHeaders<'a> {
 }
 
 impl<'a> LaxPacketHeaders<'a> {
+    ghost use Rattle.ether_lax.specs.Agreement.{AgreeOn, FindsPlaces};
     ghost use Rattle.ether_lax.specs.Headers.{HoldsHeaders};
     ghost use Rattle.ether_lax.specs.Payloads.{OfLink, Nothing};
+    ghost use Rattle.ether_lax.specs.Sliced.{HoldsLayout};
     ghost use Rattle.ether_lax.specs.Steps.{begins_with};
+    ghost use Rattle.ether_lax.specs.declared.sliced_packet.LaxSlicedPacket.{LaxSlicedPacket};
 
     /// How many link extensions are read at most.
     pub const LINK_EXTS_CAP: usize = 3;
@@ -56,6 +59,9 @@ impl<'a> LaxPacketHeaders<'a> {
             Reads (ethernet2_form no_map) slice.now result (λ packet.
             (packet.link ≡ Some (header.Ethernet2 (ethernet2_header slice.now)))
             × HoldsHeaders slice.now (begins_with kind.Ethernet2) payload packet) }
+        ensures agrees { IfOk result (λ headers. (packet : LaxSlicedPacket)
+            → HoldsLayout slice.now (begins_with kind.Ethernet2) packet
+            → FindsPlaces slice.now (begins_with kind.Ethernet2) → AgreeOn packet headers) }
     {
         let frame = Ethernet2Slice::from_slice_without_fcs(slice)?;
         let payload = frame.payload();
@@ -74,6 +80,9 @@ impl<'a> LaxPacketHeaders<'a> {
         ensures link { result.link ≡ None }
         ensures value { HoldsHeaders slice.now (by_ether_type 0 ether_type.0)
             (OfLink (record { incomplete = false; ether_type = ether_type; source = Slice; bytes = slice.now })) result }
+        ensures agrees { (packet : LaxSlicedPacket)
+            → HoldsLayout slice.now (by_ether_type 0 ether_type.0) packet
+            → FindsPlaces slice.now (by_ether_type 0 ether_type.0) → AgreeOn packet result }
     {
         let start = LaxPayloadSlice::Ether(LaxEtherPayloadSlice {
             incomplete: false,
@@ -88,6 +97,9 @@ impl<'a> LaxPacketHeaders<'a> {
     pub fn from_ip(slice: &'a [u8]) -> Result<LaxPacketHeaders<'a>, LaxHeaderSliceError>
         ensures value { Reads ip_slice_form slice.now result (λ packet.
             (packet.link ≡ None) × HoldsHeaders slice.now (begins_with kind.Ip) Nothing packet) }
+        ensures agrees { IfOk result (λ headers. (packet : LaxSlicedPacket)
+            → HoldsLayout slice.now (begins_with kind.Ip) packet
+            → FindsPlaces slice.now (begins_with kind.Ip) → AgreeOn packet headers) }
     {
         let _header_len = ip_header_len(slice)?;
         Ok(headers(slice, None, LaxPayloadSlice::Empty, first(PartKind::Ip)))

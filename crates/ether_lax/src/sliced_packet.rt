@@ -1,5 +1,5 @@
 //! Packets cut into slices.
-ghost use Rattle.std.specs.Prelude.{◌≡◌, Some, None};
+ghost use Rattle.std.specs.Prelude.{◌≡◌, ℕ, IfOk, Some, None, take};
 ghost use Rattle.ether_link.specs.Form.{Reads, no_map};
 ghost use Rattle.ether_link.specs.Ethernet2.{ethernet2_form};
 ghost use Rattle.ether_link.specs.LinkGrammar.{by_ether_type};
@@ -31,8 +31,10 @@ pub struct LaxSlicedPacket<'a> {
 }
 
 impl<'a> LaxSlicedPacket<'a> {
-    ghost use Rattle.ether_lax.specs.Sliced.{HoldsLayout, IsPayloadLink};
+    ghost use Rattle.ether_lax.specs.CutPackets.{IsCutPacket};
+    ghost use Rattle.ether_lax.specs.Sliced.{HoldsLayout, IsPayloadLink, sliced_in};
     ghost use Rattle.ether_lax.specs.Steps.{begins_with};
+    ghost use Rattle.ether_lax.specs.declared.sliced_packet.LaxSlicedPacket.{LaxSlicedPacket};
 
     /// How many link extensions are read at most.
     pub const LINK_EXTS_CAP: usize = 3;
@@ -43,6 +45,9 @@ impl<'a> LaxSlicedPacket<'a> {
         ensures value { Reads (ethernet2_form no_map) slice.now result (λ packet.
             (packet.link ≡ Some (link.Ethernet2 slice.now))
             × HoldsLayout slice.now (begins_with kind.Ethernet2) packet) }
+        ensures cut { IfOk result (λ packet. (n : ℕ) (kept : LaxSlicedPacket)
+            → HoldsLayout (take n slice.now) (begins_with kind.Ethernet2) kept
+            → IsCutPacket slice.now n (sliced_in kept) (sliced_in packet)) }
     {
         let frame = Ethernet2Slice::from_slice_without_fcs(slice)?;
         let link = Some(LinkSlice::Ethernet2(frame));
