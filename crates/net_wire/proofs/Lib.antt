@@ -8,6 +8,7 @@ pub mod DhcpMessageLemmas
 pub mod DhcpReadBackLemmas
 pub mod DhcpReadLemmas
 pub mod DhcpServersLemmas
+pub mod SentArpLemmas
 pub mod SentArrivesLemmas
 pub mod SentFrameLemmas
 pub mod DnsNameLemmas

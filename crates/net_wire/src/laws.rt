@@ -1,4 +1,5 @@
 //! Facts about the definitions, each a function that does nothing and whose clause is the fact.
+ghost use Rattle.net_wire.specs.Arp.{SentArpCounts};
 ghost use Rattle.net_wire.specs.Arrival.{SentFramesArrive};
 ghost use Rattle.net_wire.specs.ArrivalExamples.{ArpByExample, DatagramsByExample};
 ghost use Rattle.net_wire.specs.Datagram.{IsOneSentFrame};
@@ -50,4 +51,9 @@ pub fn sent_frames_arrive()
 /// A DHCP message that was written is read again, but for the options of the caller, which read as nothing.
 pub fn messages_are_read()
     ensures { ReadsWritten }
+{}
+
+/// A frame that is sent with an ARP packet of one host counts at each station that takes the frame, whatever follows.
+pub fn sent_arp_counts()
+    ensures { SentArpCounts }
 {}
