@@ -1,9 +1,11 @@
 //! The answer records of a response, and the chain of aliases through them.
-ghost use Rattle.std.specs.Prelude.{◌≡◌, ◌≤◌, ◌++◌, ◌∷◌, [], ◌↔◌, List, take, IsTrue, IsSome, MatchOption, Some, None, option_map};
+ghost use Rattle.std.specs.Prelude.{◌≡◌, ◌≤◌, ◌++◌, ◌∷◌, [], ◌↔◌, List, take, IsTrue, IsSome, MatchOption};
+ghost use Rattle.std.specs.Prelude.{Some, None, option_map};
 ghost use Rattle.net_wire.specs.DnsLabels.{labels_left};
 ghost use Rattle.net_wire.specs.DnsName.{name_of, wire_len};
 ghost use Rattle.net_wire.specs.declared.address.IpAddress.{IpAddress};
-ghost use Rattle.dns_client.specs.AnswerChain.{Name, AnswerValue, answer_at, answers_at, next_name, addresses_for, chain_answer, content_of};
+ghost use Rattle.dns_client.specs.AnswerChain.{Name, AnswerValue, answer_at, answers_at, next_name};
+ghost use Rattle.dns_client.specs.AnswerChain.{addresses_for, chain_answer, content_of};
 ghost use Rattle.dns_client.specs.AnswerRead.{IfName, content_value, answer_value};
 ghost use Rattle.net_wire.specs.DnsRead.{body_value};
 
@@ -85,7 +87,8 @@ pub(crate) fn is_short(labels: Labels<'_>) -> bool
 #[tactic(auto, using(crate::proofs::AnswerLemmas::alias_whole, crate::proofs::AnswerLemmas::alias_some, crate::proofs::AnswerLemmas::alias_refused))]
 fn content_of<'a>(packet: &Packet<'a>, body: RecordData<'a>) -> Option<AnswerData<'a>>
     ensures { MatchOption result (content_of packet.now (body_value body.entry) ≡ None)
-        (λ told. (content_of packet.now (body_value body.entry) ≡ content_value told) × IsSome (content_value told)) }
+        (λ told. (content_of packet.now (body_value body.entry) ≡ content_value told)
+        × IsSome (content_value told)) }
 {
     match body {
         RecordData::A(address) => Some(AnswerData::Address(1, IpAddress::Ipv4(address))),
@@ -105,7 +108,8 @@ fn content_of<'a>(packet: &Packet<'a>, body: RecordData<'a>) -> Option<AnswerDat
 /// The answer that stands first in the bytes, and the bytes after it.
 fn first_answer<'a>(packet: &Packet<'a>, bytes: &'a [u8]) -> Option<(Answer<'a>, &'a [u8])>
     ensures { MatchOption result (answer_at packet.now bytes.now ≡ None)
-        (λ found. (answer_at packet.now bytes.now ≡ option_map (λ value. (value, found.1.now)) (answer_value found.0))
+        (λ found. (answer_at packet.now bytes.now
+        ≡ option_map (λ value. (value, found.1.now)) (answer_value found.0))
         × IsSome (answer_value found.0)) }
 {
     let Ok((after, record)) = Record::parse(bytes) else {
@@ -124,7 +128,8 @@ fn first_answer<'a>(packet: &Packet<'a>, bytes: &'a [u8]) -> Option<(Answer<'a>,
 /// Keeps an address if it is one of the first four.
 #[tactic(auto, using(crate::proofs::AnswerLemmas::first_four_full, crate::proofs::AnswerLemmas::first_four_room))]
 fn add_first(found: &mut ArrayVec<IpAddress, 4>, address: IpAddress)
-    ensures { (all : List IpAddress) → found.old.items ≡ take 4 all → found.new.items ≡ take 4 (all ++ address ∷ []) }
+    ensures { (all : List IpAddress) → found.old.items ≡ take 4 all
+        → found.new.items ≡ take 4 (all ++ address ∷ []) }
 {
     if found.is_full() {
         return;
@@ -140,7 +145,8 @@ fn follow_one<'a>(
     number: u16,
 )
     ensures { (name : Name) (value : AnswerValue) (all : List IpAddress)
-        → name_of (labels_left wanted.old) ≡ Some name → answer_value answer.entry ≡ Some value → found.old.items ≡ take 4 all
+        → name_of (labels_left wanted.old) ≡ Some name → answer_value answer.entry ≡ Some value
+        → found.old.items ≡ take 4 all
         → (name_of (labels_left wanted.new) ≡ Some (next_name name value))
         × (found.new.items ≡ take 4 (all ++ addresses_for number name value)) }
 {
@@ -166,7 +172,8 @@ pub(crate) fn follow<'a>(
     records: &'a [u8],
 ) -> Option<ArrayVec<IpAddress, 4>>
     ensures { (name : Name) → name_of (labels_left asked.entry) ≡ Some name
-        → option_map (λ found. found.items) result ≡ option_map (chain_answer number name) (answers_at packet.now count records.now) }
+        → option_map (λ found. found.items) result
+        ≡ option_map (chain_answer number name) (answers_at packet.now count records.now) }
 {
     let mut wanted = asked;
     let mut found = ArrayVec::new();

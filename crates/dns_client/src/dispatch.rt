@@ -69,7 +69,8 @@ pub(crate) fn dispatch<E: DnsEmit>(
     out: &mut E,
 ) -> Result<(), EmitError>
     requires { length servers.now ≤ 3 }
-    ensures { Dispatched E.took E.refused hop_limit (walk (look (E.source out.old) servers.now now.now) slots.old)
+    ensures { Dispatched E.took E.refused hop_limit
+        (walk (look (E.source out.old) servers.now now.now) slots.old)
         result slots.new out.old out.new }
 {
     for at in 0..slots.len() {

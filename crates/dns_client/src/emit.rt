@@ -12,8 +12,8 @@ pub trait DnsEmit {
     /// The emitter before and after a call that took a message.
     ghost took: { Self → Self → Outgoing → Type 0 };
 
-    /// The emitter before and after a call that refused a message, since the hardware address of the next hop is not
-    /// known.
+    /// The emitter before and after a call that refused a message, since the hardware address of the next hop
+    /// is not known.
     ghost refused: { Self → Self → Outgoing → Type 0 };
 
     /// The address from which datagrams go to a destination.

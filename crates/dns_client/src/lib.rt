@@ -1,5 +1,5 @@
-//! A DNS client that takes an answer from the server it asked and from no one else (RFC 1035, section 7; mDNS by RFC 6762,
-//! section 5.1).
+//! A DNS client that takes an answer from the server it asked and from no one else (RFC 1035, section 7; mDNS
+//! by RFC 6762, section 5.1).
 #![tactic(auto)]
 
 mod answer;

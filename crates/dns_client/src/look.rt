@@ -1,5 +1,6 @@
 //! Looks at queries.
-ghost use Rattle.std.specs.Prelude.{◌≡◌, ◌<◌, ◌≤◌, ◌*◌, nat_lt, length, slice_get, Some, OnSome, if◌then◌else◌};
+ghost use Rattle.std.specs.Prelude.{◌≡◌, ◌<◌, ◌≤◌, ◌*◌, nat_lt, length, slice_get, Some, OnSome};
+ghost use Rattle.std.specs.Prelude.{if◌then◌else◌};
 ghost use Rattle.dns_client.specs.Looks.{places, port_of, turned, sent_to, choice_for, look, with_turn};
 ghost use Rattle.dns_client.specs.LookRead.{request_of, choice_value, choice_in, IsAsked, IsShortChoice};
 ghost use Rattle.dns_client.specs.Turns.{IsShort};
@@ -137,7 +138,8 @@ fn choose<E: DnsEmit>(
     out: &E,
 ) -> Choice
     requires { length servers.now ≤ 3 }
-    ensures value { choice_value waiting.now.request result ≡ choice_for (E.source out.now) servers.now now.now waiting.now }
+    ensures value { choice_value waiting.now.request result
+        ≡ choice_for (E.source out.now) servers.now now.now waiting.now }
     ensures short { IsShortChoice result }
     ensures asks { IsAsked (E.source out.now) (Some waiting.now.request) result }
 {
@@ -173,7 +175,8 @@ pub(crate) fn look_at<E: DnsEmit>(
     out: &E,
 ) -> Choice
     requires { length servers.now ≤ 3 }
-    ensures value { choice_in (request_of slot.now) result ≡ look (E.source out.now) servers.now now.now slot.now }
+    ensures value { choice_in (request_of slot.now) result
+        ≡ look (E.source out.now) servers.now now.now slot.now }
     ensures short { IsShortChoice result }
     ensures asks { IsAsked (E.source out.now) (request_of slot.now) result }
 {

@@ -2,7 +2,8 @@
 ghost use Rattle.std.specs.Prelude.{◌≡◌, ◌<◌, ◌++◌, ◌∷◌, [], IfOk, IfSome, MatchResult, length, is_some};
 ghost use Rattle.std.specs.Option.{option_copied};
 ghost use Rattle.dns_client.specs.PlainName.{plain_name};
-ghost use Rattle.dns_client.specs.TextName.{without_point, parts_of, parts_behind, labels_of_text, label_fault, end_fault, mdns_of_label, bytes_of_text};
+ghost use Rattle.dns_client.specs.TextName.{without_point, parts_of, parts_behind, labels_of_text};
+ghost use Rattle.dns_client.specs.TextName.{label_fault, end_fault, mdns_of_label, bytes_of_text};
 ghost use Rattle.net_wire.specs.DnsLabels.{labels_left};
 ghost use Rattle.net_wire.specs.DnsName.{name_of};
 
@@ -10,8 +11,8 @@ use crate::{MulticastDns, StartQueryError};
 use arrayvec::ArrayVec;
 use net_wire::dns::{Labels, name_len};
 
-/// The bytes of a name that is written with a point between labels, and whether it is asked for by mDNS. One closing
-/// point is dropped first.
+/// The bytes of a name that is written with a point between labels, and whether it is asked for by mDNS. One
+/// closing point is dropped first.
 pub fn name_bytes(name: &str) -> Result<(ArrayVec<u8, 255>, MulticastDns), StartQueryError>
     ensures value { result ≡ bytes_of_text name.now }
     ensures plain { IfOk result (λ named. plain_name named.0.items ≡ Some (labels_of_text name.now)) }

@@ -30,7 +30,8 @@ impl Model for Request {
 
     ghost Value = { RequestValue };
 
-    ghost view = { λ r. record { name = r.name.items; type_ = r.type_; mdns = r.mdns; id = r.id; port = r.port } };
+    ghost view = { λ r.
+        record { name = r.name.items; type_ = r.type_; mdns = r.mdns; id = r.id; port = r.port } };
 
     ghost invariant = { λ r. is_some (plain_name r.name.items) ≡ true };
 }

@@ -4,7 +4,9 @@ ghost use Rattle.net_wire.specs.DnsLabels.{labels_left};
 ghost use Rattle.net_wire.specs.DnsMessage.{flag_bits, type_number};
 ghost use Rattle.net_wire.specs.DnsName.{labels_at};
 ghost use Rattle.dns_client.specs.PlainName.{plain_name};
-ghost use Rattle.dns_client.specs.Response.{is_same_address, is_response, has_right_source, reaches_waiting, reaches, answer_for, answer_in, settled, decided, failed_if, first_decided, heard};
+ghost use Rattle.dns_client.specs.Response.{is_same_address, is_response, has_right_source, reaches_waiting};
+ghost use Rattle.dns_client.specs.Response.{reaches, answer_for, answer_in, settled, decided, failed_if};
+ghost use Rattle.dns_client.specs.Response.{first_decided, heard};
 
 use crate::MulticastDns;
 use crate::answer::{follow, same_labels};

@@ -1,6 +1,7 @@
 //! Slots of queries, wherever they lie.
 ghost use Rattle.std.specs.Prelude.{◌≡◌, ◌<◌, ◌≤◌, length, IsTrue, IsSome, IfOk, IfErr, OnErr, ◌↔◌};
-ghost use Rattle.dns_client.specs.Slots.{first_free, with_new, slot_at, without, Gives, least_due, due_of, earlier};
+ghost use Rattle.dns_client.specs.Slots.{first_free, with_new, slot_at, without, Gives, least_due, due_of};
+ghost use Rattle.dns_client.specs.Slots.{earlier};
 
 use crate::query::{DnsQuery, QueryHandle, QueryState};
 use crate::{GetQueryResultError, StartQueryError};
@@ -27,7 +28,8 @@ pub(crate) fn put(
     slots: &mut [Option<DnsQuery>],
     query: DnsQuery,
 ) -> Result<QueryHandle, StartQueryError>
-    ensures ok { IfOk result (λ handle. (handle.0 ≡ first_free slots.old) × (first_free slots.old < length slots.old)
+    ensures ok { IfOk result (λ handle. (handle.0 ≡ first_free slots.old)
+        × (first_free slots.old < length slots.old)
         × (slots.new ≡ with_new query slots.old)) }
     ensures err { OnErr result ((slots.new ≡ slots.old) × (first_free slots.old ≡ length slots.old)) }
     ensures cause { IfErr result (λ error. error ≡ StartQueryError.NoFreeSlot) }
@@ -49,7 +51,8 @@ pub(crate) fn put_or_grow(
 ) -> Result<QueryHandle, StartQueryError>
     ensures ok { IfOk result (λ handle. (handle.0 ≡ first_free slots.old.items)
         × (slots.new.items ≡ with_new query slots.old.items)) }
-    ensures err { OnErr result ((slots.new.items ≡ slots.old.items) × (first_free slots.old.items ≡ length slots.old.items)) }
+    ensures err { OnErr result ((slots.new.items ≡ slots.old.items)
+        × (first_free slots.old.items ≡ length slots.old.items)) }
     ensures cause { IfErr result (λ error. error ≡ StartQueryError.NoMemory) }
 {
     let at = first_free(slots.as_slice());

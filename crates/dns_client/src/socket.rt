@@ -109,7 +109,8 @@ impl<'a> Socket<'a> {
     ) -> Result<ArrayVec<IpAddress, 4>, GetQueryResultError>
         requires { IsSome (slot_at (client_of self.old).slots handle) }
         ensures value { Gives (client_of self.old).slots handle result (client_of self.new).slots }
-        ensures others { client_of self.new ≡ record (client_of self.old) { slots = (client_of self.new).slots } }
+        ensures others { client_of self.new
+            ≡ record (client_of self.old) { slots = (client_of self.new).slots } }
     {
         match &mut self.queries {
             ManagedSlice::Borrowed(slots) => take_result(slots, handle),
@@ -120,7 +121,8 @@ impl<'a> Socket<'a> {
     /// Ends a query and frees its slot.
     pub fn cancel_query(&mut self, handle: QueryHandle)
         requires { IsSome (slot_at (client_of self.old).slots handle) }
-        ensures value { client_of self.new ≡ record (client_of self.old) { slots = without (client_of self.old).slots handle } }
+        ensures value { client_of self.new
+            ≡ record (client_of self.old) { slots = without (client_of self.old).slots handle } }
     {
         match &mut self.queries {
             ManagedSlice::Borrowed(slots) => free(slots, handle),
@@ -148,11 +150,13 @@ impl<'a> Socket<'a> {
         false
     }
 
-    /// Lets a datagram to a port decide what it can. The address that a query asked last is the one that answers it.
+    /// Lets a datagram to a port decide what it can. The address that a query asked last is the one that
+    /// answers it.
     pub fn process(&mut self, src: IpAddress, src_port: u16, dst_port: u16, payload: &[u8])
         requires { IsTrue (is_accepted (client_of self.old).servers src src_port) }
         ensures value { client_of self.new ≡ record (client_of self.old) {
-          slots = after_response (arrived_by src src_port dst_port payload.now) payload.now (client_of self.old).slots;
+          slots = after_response (arrived_by src src_port dst_port payload.now)
+              payload.now (client_of self.old).slots;
         } }
     {
         let Ok(packet) = Packet::new_checked(payload) else {
@@ -178,7 +182,8 @@ impl<'a> Socket<'a> {
         ensures value { Dispatched E.took E.refused (hop_limit_of (client_of self.old))
             (walk (look (E.source out.old) (client_of self.old).servers now) (client_of self.old).slots)
             result (client_of self.new).slots out.old out.new }
-        ensures others { client_of self.new ≡ record (client_of self.old) { slots = (client_of self.new).slots } }
+        ensures others { client_of self.new
+            ≡ record (client_of self.old) { slots = (client_of self.new).slots } }
     {
         let hop_limit = match self.hop_limit {
             Some(hop_limit) => hop_limit,

@@ -14,7 +14,8 @@ use net_wire::dns::DnsType;
 use net_wire::{Duration, Instant};
 
 impl<'a> Socket<'a> {
-    ghost use Rattle.dns_client.specs.Client.{client_of, Started, text_refusal, raw_refusal, place_fault, has_no_place};
+    ghost use Rattle.dns_client.specs.Client.{client_of, Started, text_refusal, raw_refusal, place_fault};
+    ghost use Rattle.dns_client.specs.Client.{has_no_place};
     ghost use Rattle.dns_client.specs.TextName.{labels_of_text, wire_name, mdns_of};
 
     /// Starts a query for a name with a point between labels. The words make its id and its port.
@@ -26,7 +27,8 @@ impl<'a> Socket<'a> {
         port_word: u32,
     ) -> Result<QueryHandle, StartQueryError>
         ensures value { Started (text_refusal (client_of self.old) name.now)
-            (new_query (request_with (wire_name name.now) query_type (mdns_of (labels_of_text name.now)) id_word port_word))
+            (new_query (request_with (wire_name name.now) query_type (mdns_of (labels_of_text name.now))
+            id_word port_word))
             result (client_of self.old) (client_of self.new) }
     {
         match name_bytes(name) {
@@ -70,7 +72,8 @@ impl<'a> Socket<'a> {
 
     #[tactic(auto, using(crate::proofs::SlotLemmas::new_is_live, crate::proofs::SlotLemmas::others_stay))]
     fn start(&mut self, request: Request) -> Result<QueryHandle, StartQueryError>
-        ensures { Started (place_fault (client_of self.old)) (new_query request) result (client_of self.old) (client_of self.new) }
+        ensures { Started (place_fault (client_of self.old)) (new_query request)
+            result (client_of self.old) (client_of self.new) }
     {
         let query = new_query(request);
         match &mut self.queries {

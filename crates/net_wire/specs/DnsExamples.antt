@@ -4,14 +4,16 @@ use Rattle.net_wire.specs.DnsName.{piece_at, AtPointer, name_at, name_len}
 use Rattle.net_wire.specs.DnsMessage.{question_at, record_at, IsCname}
 use Rattle.net_wire.specs.declared.dns.dns_type.DnsType.TheVariants as dns
 
--- the domain names of RFC 1035, section 4.1.4: F.ISI.ARPA at 20, FOO.F.ISI.ARPA at 40, ARPA at 64, the root at 92
+-- the domain names of RFC 1035, section 4.1.4: F.ISI.ARPA at 20, FOO.F.ISI.ARPA at 40, ARPA at 64, the root
+-- at 92
 abbrev pub compressed : List ℕ
 compressed =
     replicate 20 0 ++ 1 ∷ codes "F" ++ 3 ∷ codes "ISI" ++ 4 ∷ codes "ARPA" ++ 0 ∷ replicate 8 0
     ++ 3 ∷ codes "FOO" ++ 0xC0 ∷ 20 ∷ replicate 18 0 ++ 0xC0 ∷ 26 ∷ replicate 26 0 ++ 0 ∷ []
 
 pub record NamesByExample : Type 0 where
-  pub foo : name_at compressed (drop 40 compressed) ≡ Some (codes "FOO" ∷ codes "F" ∷ codes "ISI" ∷ codes "ARPA" ∷ [])
+  pub foo : name_at compressed (drop 40 compressed)
+      ≡ Some (codes "FOO" ∷ codes "F" ∷ codes "ISI" ∷ codes "ARPA" ∷ [])
   pub arpa : name_at compressed (drop 64 compressed) ≡ Some (codes "ARPA" ∷ [])
   pub root : name_at compressed (drop 92 compressed) ≡ Some []
   -- the first pointer may lead forward, each later one leads below the last target
@@ -33,7 +35,8 @@ pub record NamesByExample : Type 0 where
   pub in_place : name_len (1 ∷ 97 ∷ 0xC0 ∷ 12 ∷ 7 ∷ []) ≡ Some 4
 
 pub record RecordsByExample : Type 0 where
-  pub question : question_at (0 ∷ 0 ∷ 28 ∷ 0 ∷ 1 ∷ 7 ∷ []) ≡ Some (record { name = 0 ∷ []; type_ = dns.Aaaa }, 7 ∷ [])
+  pub question : question_at (0 ∷ 0 ∷ 28 ∷ 0 ∷ 1 ∷ 7 ∷ [])
+      ≡ Some (record { name = 0 ∷ []; type_ = dns.Aaaa }, 7 ∷ [])
   pub other_class : question_at (0 ∷ 0 ∷ 28 ∷ 0 ∷ 3 ∷ []) ≡ None
   pub alias : record_at (0 ∷ 0 ∷ 5 ∷ 0 ∷ 1 ∷ 0 ∷ 0 ∷ 0 ∷ 9 ∷ 0 ∷ 3 ∷ 1 ∷ 97 ∷ 0 ∷ 7 ∷ [])
       ≡ Some (record { name = 0 ∷ []; ttl = 9; body = IsCname (1 ∷ 97 ∷ 0 ∷ []) }, 7 ∷ [])

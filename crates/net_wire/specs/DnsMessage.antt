@@ -54,7 +54,8 @@ question_behind name fixed =
 
 -- the question that stands first in the bytes, and the bytes after it
 abbrev pub question_at : List ℕ → Option (QuestionValue × List ℕ)
-question_at bytes = option_and_then (λ len. question_behind (take len bytes) (drop len bytes)) (name_len bytes)
+question_at bytes =
+    option_and_then (λ len. question_behind (take len bytes) (drop len bytes)) (name_len bytes)
 
 -- what a record says: an address, another name by the bytes of it in place, or a type that is passed over
 pub data BodyValue : Type 0 where
@@ -63,12 +64,13 @@ pub data BodyValue : Type 0 where
   IsCname : List ℕ → BodyValue
   IsOther : DnsType → List ℕ → BodyValue
 
--- An A record has four bytes (section 3.4.1), an AAAA record 16 (RFC 3596, section 2.2), and a CNAME record exactly one
--- name (section 3.3.1).
+-- An A record has four bytes (section 3.4.1), an AAAA record 16 (RFC 3596, section 2.2), and a CNAME record
+-- exactly one name (section 3.3.1).
 abbrev pub body_of : DnsType → List ℕ → Option BodyValue
 body_of dns.A bytes = if length bytes == 4 then Some (IsA (record { 0 = bytes })) else None
 body_of dns.Aaaa bytes = if length bytes == 16 then Some (IsAaaa (record { 0 = bytes })) else None
-body_of dns.Cname bytes = option_and_then (λ len. if len == length bytes then Some (IsCname bytes) else None) (name_len bytes)
+body_of dns.Cname bytes =
+    option_and_then (λ len. if len == length bytes then Some (IsCname bytes) else None) (name_len bytes)
 body_of dns.Ns bytes = Some (IsOther dns.Ns bytes)
 body_of dns.Soa bytes = Some (IsOther dns.Soa bytes)
 body_of (dns.Unknown number) bytes = Some (IsOther (dns.Unknown number) bytes)
@@ -79,11 +81,13 @@ pub record RecordValue : Type 0 where
   pub ttl : ℕ
   pub body : BodyValue
 
--- behind the name a type, the class of the internet, the time to live, and a length with so many bytes (section 4.1.3)
+-- behind the name a type, the class of the internet, the time to live, and a length with so many bytes
+-- (section 4.1.3)
 abbrev pub record_behind : List ℕ → List ℕ → Option (RecordValue × List ℕ)
 record_behind name fixed =
     if nat_le (10 + be16_at fixed 8) (length fixed) && (be16_at fixed 2 == 1)
-    then option_map (λ body. (record { name = name; ttl = be32_at fixed 4; body = body }, drop (10 + be16_at fixed 8) fixed))
+    then option_map
+    (λ body. (record { name = name; ttl = be32_at fixed 4; body = body }, drop (10 + be16_at fixed 8) fixed))
     (body_of (type_of_number (be16_at fixed 0)) (bytes_between 10 (10 + be16_at fixed 8) fixed))
     else None
 
@@ -91,7 +95,8 @@ record_behind name fixed =
 abbrev pub record_at : List ℕ → Option (RecordValue × List ℕ)
 record_at bytes = option_and_then (λ len. record_behind (take len bytes) (drop len bytes)) (name_len bytes)
 
--- A query of one question with an id: recursion is desired, and there are no records (sections 4.1.1 and 4.1.2).
+-- A query of one question with an id: recursion is desired, and there are no records (sections 4.1.1 and
+-- 4.1.2).
 unfoldable pub query_bytes : ℕ → QuestionValue → List ℕ
 query_bytes id question =
     to_be_bytes w16 id ++ 0x01 ∷ 0 ∷ 0 ∷ 1 ∷ 0 ∷ 0 ∷ 0 ∷ 0 ∷ 0 ∷ 0 ∷ [] ++ question.name
@@ -99,6 +104,8 @@ query_bytes id question =
 
 -- the question of a query is read again, where its name is one name in place
 abbrev pub ReadsQuery : Type 0
-ReadsQuery = (id : ℕ) (question : QuestionValue) → id < 2 ^ 16 → name_len question.name ≡ Some (length question.name)
+ReadsQuery =
+    (id : ℕ) (question : QuestionValue) → id < 2 ^ 16 → name_len question.name ≡ Some (length question.name)
     → type_number question.type_ < 2 ^ 16 → type_of_number (type_number question.type_) ≡ question.type_
-    → (message_id (query_bytes id question) ≡ id) × (question_at (drop 12 (query_bytes id question)) ≡ Some (question, []))
+    → (message_id (query_bytes id question) ≡ id)
+    × (question_at (drop 12 (query_bytes id question)) ≡ Some (question, []))

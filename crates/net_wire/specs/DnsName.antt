@@ -1,5 +1,5 @@
--- Names in DNS messages (RFC 1035, sections 3.1 and 4.1.4). A name stands in place as labels, closed by a zero byte or
--- by a pointer to where it goes on.
+-- Names in DNS messages (RFC 1035, sections 3.1 and 4.1.4). A name stands in place as labels, closed by a
+-- zero byte or by a pointer to where it goes on.
 use Rattle.std.specs.Prelude.{◌≡◌, ◌<◌, ℕ, zero, suc, ◌+◌, ◌-◌, ◌*◌, ◌==◌, nat_lt, nat_le, List, [], ◌∷◌, length, take, drop, Option, Some, None, Result, Ok, Err, option_map, if◌then◌else◌, ◌↔◌}
 use Rattle.net_wire.specs.declared.error.Malformed.{Malformed}
 
@@ -19,13 +19,14 @@ abbrev pub pointer_at : ℕ → List ℕ → NamePiece
 pointer_at high [] = AtFault
 pointer_at high (low ∷ after) = AtPointer ((high - 0xC0) * 256 + low) after
 
--- A zero byte ends a name, a byte up to 63 is the length of a label, one from C0 on begins a pointer; the others are
--- reserved.
+-- A zero byte ends a name, a byte up to 63 is the length of a label, one from C0 on begins a pointer; the
+-- others are reserved.
 abbrev pub piece_at : List ℕ → NamePiece
 piece_at [] = AtFault
 piece_at (first ∷ after) =
     if first == 0 then AtEnd after
-    else if nat_lt first 64 then (if nat_le first (length after) then AtLabel (take first after) (drop first after) else AtFault)
+    else if nat_lt first 64
+    then (if nat_le first (length after) then AtLabel (take first after) (drop first after) else AtFault)
     else if nat_lt first 0xC0 then AtFault else pointer_at first after
 
 -- labels in order, of which a fault is the last one
@@ -35,8 +36,8 @@ LabelList = List (Result (List ℕ) Malformed)
 abbrev pub fault : LabelList
 fault = Err (record {}) ∷ []
 
--- The labels from a piece on, where `next` says what the bytes further on give: its first argument is where a pointer
--- may lead, its second the bytes to read. A pointer goes on below the last one.
+-- The labels from a piece on, where `next` says what the bytes further on give: its first argument is where a
+-- pointer may lead, its second the bytes to read. A pointer goes on below the last one.
 abbrev pub labels_after : (List ℕ → List ℕ → LabelList) → List ℕ → NamePiece → LabelList
 labels_after next below (AtEnd after) = []
 labels_after next below (AtLabel label after) = Ok label ∷ next below after
@@ -49,8 +50,8 @@ unfoldable pub labels_within : ℕ → List ℕ → List ℕ → LabelList
 labels_within zero below bytes = fault
 labels_within (suc n) below bytes = labels_after (labels_within n) below (piece_at bytes)
 
--- The labels of the name that stands first in the bytes, where pointers lead into `below`. Each piece takes some of the
--- bytes, or leaves less below, so there are no more pieces than bytes.
+-- The labels of the name that stands first in the bytes, where pointers lead into `below`. Each piece takes
+-- some of the bytes, or leaves less below, so there are no more pieces than bytes.
 abbrev pub labels_at : List ℕ → List ℕ → LabelList
 labels_at below bytes = labels_within (length below + length bytes) below bytes
 
@@ -84,15 +85,19 @@ name_len_within (suc n) bytes = name_len_after (name_len_within n) (piece_at byt
 abbrev pub name_len : List ℕ → Option ℕ
 name_len bytes = name_len_within (length bytes) bytes
 
--- The bytes spell a name where pointers lead below (RFC 1035, section 4.1.4): a zero byte, the root; a label and then
--- what the bytes after it spell; or a pointer to "a prior occurrence", and then what stands there spells.
+-- The bytes spell a name where pointers lead below (RFC 1035, section 4.1.4): a zero byte, the root; a label
+-- and then what the bytes after it spell; or a pointer to "a prior occurrence", and then what stands there
+-- spells.
 pub data Spells : List ℕ → List ℕ → List (List ℕ) → Type 0 where
   ends : (below bytes after : List ℕ) → piece_at bytes ≡ AtEnd after → Spells below bytes []
   goes_on : (below bytes label after : List ℕ) (name : List (List ℕ)) → piece_at bytes ≡ AtLabel label after
       → Spells below after name → Spells below bytes (label ∷ name)
-  points : (below bytes after : List ℕ) (target : ℕ) (name : List (List ℕ)) → piece_at bytes ≡ AtPointer target after
+  points : (below bytes after : List ℕ) (target : ℕ) (name : List (List ℕ))
+      → piece_at bytes ≡ AtPointer target after
       → target < length below → Spells (take target below) (drop target below) name → Spells below bytes name
 
 -- the name that is read is the one that the bytes spell
 abbrev pub ReadsSpelled : Type 0
-ReadsSpelled = (message bytes : List ℕ) (name : List (List ℕ)) → Spells message bytes name ↔ (name_at message bytes ≡ Some name)
+ReadsSpelled =
+    (message bytes : List ℕ) (name : List (List ℕ))
+    → Spells message bytes name ↔ (name_at message bytes ≡ Some name)

@@ -1,9 +1,11 @@
-//! `dns_client`: a query is started, and a datagram may answer it.
-ghost use Rattle.std.specs.Prelude.{◌≡◌, ◌≢◌, ℕ, IfOk, OnErr, IsSome, slice_get};
+//! `dns_client`: a query is started, and ended.
+ghost use Rattle.std.specs.Prelude.{◌≡◌, ◌≢◌, ℕ, IfOk, OnErr, IsSome, IsFalse, is_some, slice_get};
 ghost use Rattle.dns_client.specs.Client.{client_of};
 ghost use Rattle.dns_client.specs.Slots.{first_free, slot_at};
 
-use dns_client::{QueryHandle, Socket, StartQueryError};
+use arrayvec::ArrayVec;
+use dns_client::{GetQueryResultError, QueryHandle, Socket, StartQueryError};
+use net_wire::IpAddress;
 use net_wire::dns::DnsType;
 
 /// Asks for the IPv4 addresses of a name. The query takes the lowest free slot, no other query is
@@ -21,4 +23,19 @@ pub fn ask(
     ensures err { OnErr result (client_of socket.new ≡ client_of socket.old) }
 {
     socket.start_query(name, DnsType::A, id_word, port_word)
+}
+
+/// Ends a query, with its addresses if it has some: its handle names no query any more.
+pub fn finish(
+    socket: &mut Socket<'_>,
+    handle: QueryHandle,
+) -> Result<ArrayVec<IpAddress, 4>, GetQueryResultError>
+    requires { IsSome (slot_at (client_of socket.old).slots handle) }
+    ensures freed { IsFalse (is_some (slot_at (client_of socket.new).slots handle)) }
+{
+    let result = socket.get_query_result(handle);
+    if socket.is_live(handle) {
+        socket.cancel_query(handle);
+    }
+    result
 }

@@ -1,6 +1,6 @@
 //! A query is asked for over borrowed and over owned slots.
 use crate::queries;
-use dns_client::{DnsQuery, Socket, StartQueryError};
+use dns_client::{DnsQuery, GetQueryResultError, Socket, StartQueryError};
 use managed::ManagedSlice;
 use net_wire::{IpAddress, Ipv4Address};
 use std::test::Fail;
@@ -16,7 +16,8 @@ fn queries_take_the_lowest_free_slot(rt: HostRuntime) -> Result<(), Fail> {
     let third = queries::ask(&mut socket, "c.example", 3, 0);
     assert_eq!(rt; third.err(), Some(StartQueryError::NoFreeSlot));
     if socket.is_live(first) {
-        socket.cancel_query(first);
+        let end = queries::finish(&mut socket, first);
+        assert_eq!(rt; end.err(), Some(GetQueryResultError::Pending));
     }
     let again = queries::ask(&mut socket, "c.example", 3, 0)?;
     assert_eq!(rt; again.slot(), 0);

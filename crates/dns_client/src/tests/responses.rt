@@ -156,8 +156,8 @@ fn a_damaged_response_leaves_the_query(rt: HostRuntime) -> Result<(), Fail> {
         hear(&mut socket, server(1), 53, 1025, &good.as_slice()[..len]);
     }
     assert_eq!(rt; outcome_of(&mut socket, handle), Outcome::Pending);
-    // each byte of the question and the offset of the first owner, the counts of questions and of answers, the
-    // response bit, the opcode, and the id
+    // each byte of the question and the offset of the first owner, the counts of questions and of answers,
+    // the response bit, the opcode, and the id
     for (from, to, byte) in [
         (12, 27, 0xc0),
         (28, 29, 0xc0),
