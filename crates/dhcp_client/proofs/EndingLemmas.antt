@@ -99,10 +99,16 @@ stays (Renewing lease) settings id cx word room ordered =
     by_test KeepsOrder (int_le lease.expires_at cx.now) Restart (cond (is_early lease cx.now) Wait asks) (λ _. tt)
     (λ _. by_test KeepsOrder (is_early lease cx.now) Wait asks (λ _. tt)
     (λ due. by_test KeepsOrder (is_for_server lease cx.now) renews rebinds
-    (λ server. (ordered, within lease.rebind_at cx.now (renew_span least greatest left)
-    (asks_server cx.now lease.rebind_at lease.rebinding server) (renew_short least greatest left)))
-    (λ _. (ordered, le_trans lease.renew_at cx.now _ (is_due cx.now lease.renew_at lease.rebind_at lease.rebinding due)
-    (not_before cx.now (rebind_span least greatest (micros_between lease.expires_at cx.now)) room)))))
+    (λ server. (
+      ordered,
+      within lease.rebind_at cx.now (renew_span least greatest left)
+          (asks_server cx.now lease.rebind_at lease.rebinding server) (renew_short least greatest left),
+    ))
+    (λ _. (
+      ordered,
+      le_trans lease.renew_at cx.now _ (is_due cx.now lease.renew_at lease.rebind_at lease.rebinding due)
+          (not_before cx.now (rebind_span least greatest (micros_between lease.expires_at cx.now)) room),
+    ))))
   where
     le_trans : (a b c : ℤ) → a ≤ℤ b → b ≤ℤ c → a ≤ℤ c
     le_trans a b c ab bc = omega (arith, ints)

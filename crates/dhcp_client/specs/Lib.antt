@@ -2,7 +2,9 @@ pub mod Carried
 pub mod Client
 pub mod Config
 pub mod Emit
+pub mod Ending
 pub mod Event
+pub mod Examples
 pub mod Heard
 pub mod HeardValue
 pub mod Hearing

@@ -4,6 +4,7 @@
 pub mod config;
 pub mod emit;
 pub mod event;
+pub mod examples;
 mod heard;
 pub mod laws;
 mod messages;

@@ -1,5 +1,6 @@
 //! A client over an emitter that remembers, and refuses at will, with messages as servers write them.
 ghost use Rattle.std.specs.Prelude.{◌≡◌, ⊤};
+ghost use Rattle.dhcp_client.specs.Config.{AreSettingsWritable};
 
 use crate::{Config, DhcpEmit, Event, ServerInfo, Socket};
 use net_wire::{
@@ -186,4 +187,144 @@ fn a_refusal_ends_a_lease_unless_ignored(rt: HostRuntime) {
         socket.process(&at(1), SERVER, &reply(6, 1));
         assert_eq!(rt; socket.poll_at().total_micros(), due);
     }
+}
+
+/// What comes to a client.
+#[derive(Clone, Copy)]
+enum Input {
+    /// It is dispatched, with this word; the emitter takes its message.
+    Taken(u32),
+    /// The same, where the emitter refuses it.
+    Refused(u32),
+    /// A message of the server of this type, with this id, and a lease of so many seconds.
+    Heard(u8, u32, u32),
+}
+
+/// When what comes, and how the client stands then: its due in microseconds, how many messages were taken, the id of the
+/// last one, and whether it went to all.
+#[derive(Clone, Copy)]
+struct Step(i64, Input, (i64, u32, u32, bool));
+
+fn stands(
+    socket: &mut Socket<'_>,
+    out: &mut Recorder,
+    micros: i64,
+    input: Input,
+) -> (i64, u32, u32, bool)
+    requires { AreSettingsWritable socket.old.settings 1500 }
+    ensures { AreSettingsWritable socket.new.settings 1500 }
+{
+    match input {
+        Input::Taken(word) => {
+            out.refuses = false;
+            let _ = socket.dispatch(&at(micros), word, out);
+        }
+        Input::Refused(word) => {
+            out.refuses = true;
+            let _ = socket.dispatch(&at(micros), word, out);
+        }
+        Input::Heard(message_type, id, secs) => {
+            let mut message = reply(message_type, id);
+            append(&mut message, 263, &secs.to_be_bytes());
+            socket.process(&at(micros), SERVER, &message);
+        }
+    }
+    (
+        socket.poll_at().total_micros(),
+        out.count,
+        out.transaction_id,
+        out.destination == Ipv4Address::BROADCAST,
+    )
+}
+
+/// The first step after which the client does not stand as it says; none if there is no such step.
+fn first_miss(steps: &[Step]) -> Option<usize> {
+    let mut socket = Socket::new();
+    let mut out = Recorder::default();
+    for i in 0..steps.len() {
+        let Step(micros, input, want) = &steps[i];
+        if stands(&mut socket, &mut out, *micros, *input) != *want {
+            return Some(i);
+        }
+    }
+    None
+}
+
+#[test]
+fn a_renewal_to_an_unknown_hop_waits_for_t2(rt: HostRuntime) {
+    let miss = first_miss(&[
+        Step(0, Input::Taken(7), (10_000_000, 1, 7, true)),
+        Step(0, Input::Heard(2, 7, 1000), (0, 1, 7, true)),
+        Step(0, Input::Heard(5, 7, 1000), (500_000_000, 1, 7, true)),
+        Step(499_000_000, Input::Refused(8), (500_000_000, 1, 7, true)),
+        Step(500_000_000, Input::Refused(9), (500_000_000, 1, 7, true)),
+        Step(600_000_000, Input::Refused(10), (500_000_000, 1, 7, true)),
+        Step(875_000_000, Input::Taken(11), (937_500_000, 2, 11, true)),
+    ]);
+    assert_eq!(rt; miss, None);
+}
+
+#[test]
+fn a_lease_of_no_time_is_over_at_once(rt: HostRuntime) {
+    let miss = first_miss(&[
+        Step(0, Input::Taken(7), (10_000_000, 1, 7, true)),
+        Step(1_000_000, Input::Heard(2, 7, 1000), (1_000_000, 1, 7, true)),
+        Step(2_000_000, Input::Heard(5, 7, 0), (2_000_000, 1, 7, true)),
+        Step(2_000_000, Input::Taken(8), (0, 1, 7, true)),
+        Step(2_000_000, Input::Taken(9), (12_000_000, 2, 9, true)),
+    ]);
+    assert_eq!(rt; miss, None);
+}
+
+#[test]
+fn an_acknowledgement_in_the_last_moment_renews(rt: HostRuntime) {
+    let miss = first_miss(&[
+        Step(0, Input::Heard(2, 1, 1000), (0, 0, 0, false)),
+        Step(0, Input::Heard(5, 1, 1000), (500_000_000, 0, 0, false)),
+        Step(997_500_000, Input::Taken(8), (1_000_000_000, 1, 8, true)),
+        Step(
+            1_000_000_000,
+            Input::Heard(5, 7, 1000),
+            (1_000_000_000, 1, 8, true),
+        ),
+        Step(
+            1_000_000_000,
+            Input::Heard(5, 8, 1000),
+            (1_500_000_000, 1, 8, true),
+        ),
+        Step(1_000_000_000, Input::Taken(9), (1_500_000_000, 1, 8, true)),
+        Step(1_500_000_000, Input::Taken(9), (1_687_500_000, 2, 9, false)),
+        Step(
+            1_600_000_000,
+            Input::Heard(6, 8, 0),
+            (1_687_500_000, 2, 9, false),
+        ),
+        Step(1_600_000_000, Input::Heard(6, 9, 0), (0, 2, 9, false)),
+        Step(
+            1_600_000_000,
+            Input::Taken(10),
+            (1_610_000_000, 3, 10, true),
+        ),
+    ]);
+    assert_eq!(rt; miss, None);
+}
+
+#[test]
+fn the_buffer_keeps_the_last_message(rt: HostRuntime) {
+    let mut buffer = [7; 302];
+    let mut socket = Socket::new();
+    socket.set_receive_packet_buffer(&mut buffer);
+    socket.process(&at(0), SERVER, &reply(2, 1));
+    socket.process(&at(0), SERVER, &reply(5, 1));
+    socket.process(&at(0), SERVER, &reply(5, 2));
+    let mut kept = [7; 302];
+    append(&mut kept, 0, &reply(5, 1));
+    let packet = match socket.poll() {
+        Some(Event::Configured(config)) => config.packet == Some(&kept[..]),
+        Some(Event::Deconfigured) => false,
+        None => false,
+    };
+    assert!(rt; packet);
+    socket.process(&at(1), SERVER, &reply(5, 1));
+    assert!(rt; socket.poll().is_some());
 }
