@@ -1,8 +1,14 @@
+pub mod ArrivalLemmas
 pub mod DatagramLemmas
+pub mod DhcpFieldsLemmas
 pub mod DhcpFoundLemmas
+pub mod DhcpHeaderLemmas
+pub mod DhcpValuesLemmas
 pub mod DhcpMessageLemmas
+pub mod DhcpReadBackLemmas
 pub mod DhcpReadLemmas
 pub mod DhcpServersLemmas
+pub mod SentArrivesLemmas
 pub mod SentFrameLemmas
 pub mod DnsNameLemmas
 pub mod DnsQueryLemmas

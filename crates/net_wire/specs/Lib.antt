@@ -1,9 +1,14 @@
+pub mod Arp
+pub mod Arrival
+pub mod ArrivalExamples
+pub mod ArrivalValues
 pub mod Datagram
 pub mod DhcpBytes
 pub mod DhcpFound
 pub mod DhcpMessage
 pub mod DhcpOptions
 pub mod DhcpRead
+pub mod DhcpReadBack
 pub mod Protocol
 pub mod Time
 pub mod IpAddress

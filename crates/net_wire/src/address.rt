@@ -9,6 +9,18 @@ impl EthernetAddress {
     pub const BROADCAST: EthernetAddress = EthernetAddress([0xff; 6]);
 }
 
+impl EthernetAddress {
+    ghost use Rattle.std.specs.Prelude.{◌≡◌};
+    ghost use Rattle.net_wire.specs.Arrival.{is_group};
+
+    /// Whether the address is that of a group of stations (IEEE 802.3, section 3.2.3).
+    pub fn is_group(self) -> bool
+        ensures { result ≡ is_group self.0 }
+    {
+        self.0[0] % 2 == 1
+    }
+}
+
 /// An IPv4 address, in network byte order (RFC 791, section 3.2).
 #[derive(Clone, Copy, Debug, Default, PartialEq, Eq, Hash, PartialOrd, Ord)]
 pub struct Ipv4Address(pub [u8; 4]);

@@ -1,5 +1,8 @@
 //! Facts about the definitions, each a function that does nothing and whose clause is the fact.
+ghost use Rattle.net_wire.specs.Arrival.{SentFramesArrive};
+ghost use Rattle.net_wire.specs.ArrivalExamples.{ArpByExample, DatagramsByExample};
 ghost use Rattle.net_wire.specs.Datagram.{IsOneSentFrame};
+ghost use Rattle.net_wire.specs.DhcpReadBack.{ReadsWritten};
 ghost use Rattle.net_wire.specs.DnsExamples.{NamesByExample, RecordsByExample};
 ghost use Rattle.net_wire.specs.DnsMessage.{ReadsQuery};
 ghost use Rattle.net_wire.specs.DnsName.{ReadsSpelled};
@@ -27,4 +30,24 @@ pub fn names_by_example()
 /// Questions and records of DNS messages.
 pub fn records_by_example()
     ensures { RecordsByExample }
+{}
+
+/// Datagrams that frames carry, and frames that carry none.
+pub fn datagrams_by_example()
+    ensures { DatagramsByExample }
+{}
+
+/// ARP packets that count, and packets that do not.
+pub fn arp_by_example()
+    ensures { ArpByExample }
+{}
+
+/// A frame that is sent with a datagram of one host carries it to each station that takes the frame.
+pub fn sent_frames_arrive()
+    ensures { SentFramesArrive }
+{}
+
+/// A DHCP message that was written is read again, but for the options of the caller, which read as nothing.
+pub fn messages_are_read()
+    ensures { ReadsWritten }
 {}

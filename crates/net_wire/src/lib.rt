@@ -2,6 +2,8 @@
 #![tactic(auto)]
 
 pub mod address;
+pub mod arp;
+pub mod arrival;
 pub mod dhcp;
 pub mod dns;
 pub mod error;
@@ -17,6 +19,8 @@ pub mod time;
 pub mod udp;
 
 pub use address::{EthernetAddress, IpAddress, Ipv4Address, Ipv4Cidr, Ipv6Address};
+pub use arp::{ArpRepr, arp_frame, arp_of};
+pub use arrival::{Datagram, datagram_of};
 pub use dhcp::{DhcpMessageType, DhcpOption, DhcpRepr};
 pub use error::{Context, EmitError, Error, Malformed, NoMemory};
 pub use ethernet::EthernetRepr;

@@ -4,7 +4,7 @@ ghost use Rattle.net_wire.specs.Datagram.{udp_bytes, pseudo_header, datagram_of,
 ghost use Rattle.net_wire.specs.declared.protocol.EthernetProtocol.{EthernetProtocol};
 ghost use Rattle.net_wire.specs.declared.protocol.IpProtocol.{IpProtocol};
 
-use crate::{EthernetProtocol, EthernetRepr, IpProtocol, Ipv4Repr};
+use crate::{EthernetProtocol, EthernetRepr, IpProtocol, Ipv4Address, Ipv4Repr};
 use wire_base::checksum::{sum_words, transmitted_checksum_of};
 use wire_base::number::append;
 
@@ -26,7 +26,7 @@ pub fn udp_frame(eth: &EthernetRepr, ip: &Ipv4Repr, udp: &UdpRepr, payload: &[u8
         (datagram_of ip.now udp.now payload.now) into.new }
 {
     let len = payload.len() as u16 + 8;
-    let sum = sum_words(&pseudo_header(ip, len))
+    let sum = sum_words(&pseudo_header(ip.src_addr, ip.dst_addr, len))
         + sum_words(&header(udp, len, 0))
         + sum_words(payload);
     eth.emit(into);
@@ -51,12 +51,12 @@ fn header(udp: &UdpRepr, len: u16, checksum: u16) -> [u8; 8]
 
 /// What the checksum covers besides a datagram of so many bytes.
 #[tactic(auto, unfolding(crate::specs::Datagram::pseudo_header))]
-fn pseudo_header(ip: &Ipv4Repr, len: u16) -> [u8; 12]
-    ensures { result ≡ pseudo_header ip.now.src_addr ip.now.dst_addr len }
+pub(crate) fn pseudo_header(source: Ipv4Address, destination: Ipv4Address, len: u16) -> [u8; 12]
+    ensures { result ≡ pseudo_header source destination len }
 {
     let mut bytes = [0; 12];
-    let at = append(&mut bytes, 0, &ip.src_addr.0);
-    let at = append(&mut bytes, at, &ip.dst_addr.0);
+    let at = append(&mut bytes, 0, &source.0);
+    let at = append(&mut bytes, at, &destination.0);
     let at = append(&mut bytes, at, &[0, 17]);
     append(&mut bytes, at, &len.to_be_bytes());
     bytes
