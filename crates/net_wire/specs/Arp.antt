@@ -61,8 +61,9 @@ pub record IsOnTheWire (arp : ArpRepr) : Type 0 where
   pub target_hardware : length arp.target_hardware_addr.0 ≡ 6
   pub target_protocol : length arp.target_protocol_addr.0 ≡ 4
 
--- a frame that is sent with a packet of one host counts at each station that takes the frame, whatever follows
+-- a frame that is sent with a packet of one host counts at each station that takes it, whatever follows
 abbrev pub SentArpCounts : Type 0
 SentArpCounts = (from to hardware : EthernetAddress) (arp : ArpRepr) (behind : List ℕ)
     → length from.0 ≡ 6 → length to.0 ≡ 6 → IsOnTheWire arp → is_from_host arp ≡ true
-    → is_taken_by hardware to ≡ true → arriving_arp hardware (arp_frame_bytes from to arp ++ behind) ≡ Some arp
+    → is_taken_by hardware to ≡ true
+    → arriving_arp hardware (arp_frame_bytes from to arp ++ behind) ≡ Some arp

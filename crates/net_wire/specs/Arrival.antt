@@ -1,5 +1,6 @@
 -- The frames that a station takes off the link, and the UDP datagram that one carries (RFC 894; RFC 791,
--- section 3.1; RFC 768). Sums are congruences: FFFF in a frame is the same number as 0000 (RFC 1071, section 2).
+-- section 3.1; RFC 768). Sums are congruences: FFFF in a frame is the same number as 0000 (RFC 1071,
+-- section 2).
 use Rattle.std.specs.Prelude.{◌≡◌, ℕ, ◌*◌, ◌/◌, ◌%◌, ◌<◌, ◌≤◌, ◌==◌, ◌&&◌, ◌||◌, Bool, true, nat_eq, nat_le}
 use Rattle.std.specs.Prelude.{List, ◌++◌, length, take, drop, slice_index, Option, Some, None, if◌then◌else◌}
 use Rattle.std.specs.Cmp.Lexicographic.{pointwise}
@@ -23,14 +24,14 @@ is_taken_by hardware destination = pointwise nat_eq destination.0 hardware.0 || 
 abbrev pub is_for : EthernetAddress → List ℕ → Bool
 is_for hardware frame = is_taken_by hardware (hardware_with (bytes_between 0 6 frame))
 
--- the length of the IPv4 header, which is counted in words of 32 bits, and that of the packet, header included
+-- the length of the IPv4 header, which is counted in words of 32 bits, and that of the packet with its header
 abbrev pub ip_header_len : List ℕ → ℕ
 ip_header_len packet = slice_index packet 0 % 16 * 4
 
 abbrev pub total_len : List ℕ → ℕ
 total_len packet = be16_at packet 2
 
--- what a packet carries: the bytes from the end of its header to its total length, without what pads the frame
+-- what a packet carries: the bytes from the end of its header to its total length, without what pads a frame
 abbrev pub body_of : List ℕ → List ℕ
 body_of packet = bytes_between (ip_header_len packet) (total_len packet) packet
 
@@ -47,16 +48,16 @@ is_packet packet =
     nat_le 20 (length packet) && (slice_index packet 0 / 16 == 4) && nat_le 20 (ip_header_len packet)
     && nat_le (ip_header_len packet) (total_len packet) && nat_le (total_len packet) (length packet)
 
--- Neither do more fragments follow nor is there an offset. Of the 16 bits of flags and offset the highest two are left
--- out: one is reserved, the other is don't fragment.
+-- Neither do more fragments follow nor is there an offset. Of the 16 bits of flags and offset the highest
+-- two are left out: one is reserved, the other is don't fragment.
 abbrev pub is_unfragmented : List ℕ → Bool
 is_unfragmented packet = be16_at packet 6 % 0x4000 == 0
 
 -- a right header sum, no fragment, from one host, of the protocol UDP
 abbrev pub is_udp_packet : List ℕ → Bool
 is_udp_packet packet =
-    sums_to_zero (take (ip_header_len packet) packet) && is_unfragmented packet && is_unicast (address_at packet 12)
-    && (slice_index packet 9 == 17)
+    sums_to_zero (take (ip_header_len packet) packet) && is_unfragmented packet
+    && is_unicast (address_at packet 12) && (slice_index packet 9 == 17)
 
 -- a UDP header of 8 bytes, and as many bytes as its length says
 abbrev pub has_udp : List ℕ → Bool

@@ -1,4 +1,4 @@
--- What frames carry by example, one for each rule that a slip would change. Sums were worked out apart from this.
+-- What frames carry by example, one for each rule that a slip would change. Sums were worked out apart.
 use Rattle.std.specs.Prelude.{◌≡◌, ℕ, List, [], ◌∷◌, ◌++◌, take, replicate, Some, None}
 use Rattle.net_wire.specs.declared.address.EthernetAddress.{EthernetAddress}
 use Rattle.net_wire.specs.declared.arp.ArpRepr.{ArpRepr}
@@ -17,7 +17,7 @@ other_station = hardware_with (replicate 6 4)
 abbrev pub host : List ℕ
 host = 192 ∷ 168 ∷ 1 ∷ 1 ∷ []
 
--- flags and offset, header checksum and source: a header of 20 bytes that announces 31 to all hosts of the link
+-- flags and offset, header checksum and source: a header of 20 bytes, 31 with what follows, to all hosts
 abbrev pub header_with : List ℕ → List ℕ → List ℕ → List ℕ
 header_with fragment checksum source =
     0x45 ∷ 0 ∷ 0 ∷ 31 ∷ 0 ∷ 0 ∷ [] ++ fragment ++ 64 ∷ 17 ∷ [] ++ checksum ++ source ++ replicate 4 255
@@ -59,7 +59,8 @@ pub record DatagramsByExample : Type 0 where
   pub carried : arriving_datagram station (ip_frame header udp) ≡ Some datagram
   -- to the station or to a group
   pub to_other : arriving_datagram other_station (ip_frame header udp) ≡ None
-  pub to_group : arriving_datagram station (1 ∷ replicate 11 4 ++ 0x08 ∷ 0 ∷ [] ++ header ++ udp) ≡ Some datagram
+  pub to_group : arriving_datagram station (1 ∷ replicate 11 4 ++ 0x08 ∷ 0 ∷ [] ++ header ++ udp)
+      ≡ Some datagram
   pub tagged : arriving_datagram station (frame_of (0x81 ∷ 0 ∷ 0 ∷ 1 ∷ 0x08 ∷ 0 ∷ []) (header ++ udp)) ≡ None
   -- the UDP checksum: 0 says that there is none
   pub no_sum : arriving_datagram station (ip_frame header bare_udp) ≡ Some datagram
@@ -67,7 +68,8 @@ pub record DatagramsByExample : Type 0 where
   -- the header checksum, which 0 does not leave out; FFFF is 0
   pub wrong_header : arriving_datagram station
       (ip_frame (header_with (0 ∷ 0 ∷ []) (0xB9 ∷ 0x26 ∷ []) host) udp) ≡ None
-  pub no_header_sum : arriving_datagram station (ip_frame (header_with (0 ∷ 0 ∷ []) (0 ∷ 0 ∷ []) host) udp) ≡ None
+  pub no_header_sum : arriving_datagram station
+      (ip_frame (header_with (0 ∷ 0 ∷ []) (0 ∷ 0 ∷ []) host) udp) ≡ None
   pub all_ones : arriving_datagram station
       (ip_frame (header_with (0 ∷ 0 ∷ []) (0xFF ∷ 0xFF ∷ []) (10 ∷ 0 ∷ 0x70 ∷ 0xCF ∷ [])) bare_udp)
       ≡ Some (datagram_from (10 ∷ 0 ∷ 0x70 ∷ 0xCF ∷ []) (0xAA ∷ 0xBB ∷ 0xCC ∷ []))
@@ -113,8 +115,8 @@ request = arp_with 1 (replicate 6 4) host
 
 abbrev pub request_frame : List ℕ
 request_frame =
-    replicate 6 255 ++ replicate 6 4 ++ 0x08 ∷ 0x06 ∷ 0 ∷ 1 ∷ 0x08 ∷ 0 ∷ 6 ∷ 4 ∷ 0 ∷ 1 ∷ [] ++ replicate 6 4 ++ host
-    ++ replicate 6 0 ++ 192 ∷ 168 ∷ 1 ∷ 42 ∷ []
+    replicate 6 255 ++ replicate 6 4 ++ 0x08 ∷ 0x06 ∷ 0 ∷ 1 ∷ 0x08 ∷ 0 ∷ 6 ∷ 4 ∷ 0 ∷ 1 ∷ [] ++ replicate 6 4
+    ++ host ++ replicate 6 0 ++ 192 ∷ 168 ∷ 1 ∷ 42 ∷ []
 
 abbrev pub sent : ArpRepr → List ℕ
 sent arp = arp_frame_bytes other_station station arp
@@ -122,7 +124,8 @@ sent arp = arp_frame_bytes other_station station arp
 pub record ArpByExample : Type 0 where
   pub bytes : arp_frame_bytes other_station (hardware_with (replicate 6 255)) request ≡ request_frame
   pub counts : arriving_arp station request_frame ≡ Some request
-  pub reply : arriving_arp station (sent (arp_with 2 (replicate 6 4) host)) ≡ Some (arp_with 2 (replicate 6 4) host)
+  pub reply : arriving_arp station (sent (arp_with 2 (replicate 6 4) host))
+      ≡ Some (arp_with 2 (replicate 6 4) host)
   pub other_operation : arriving_arp station (sent (arp_with 3 (replicate 6 4) host)) ≡ None
   -- bytes may follow, none may be missing
   pub padded : arriving_arp station (request_frame ++ replicate 18 0) ≡ Some request
@@ -132,5 +135,6 @@ pub record ArpByExample : Type 0 where
   pub from_group : arriving_arp station (sent (arp_with 1 (1 ∷ replicate 5 4) host)) ≡ None
   pub from_nobody : arriving_arp station (sent (arp_with 1 (replicate 6 4) (replicate 4 0))) ≡ None
   -- of Ethernet and IPv4
-  pub other_hardware : arriving_arp station (replicate 6 2 ++ replicate 6 4 ++ 0x08 ∷ 0x06 ∷ 0 ∷ 6 ∷ 0x08 ∷ 0 ∷ 6 ∷ 4 ∷ 0 ∷ 1 ∷ []
-      ++ replicate 6 4 ++ host ++ replicate 10 0) ≡ None
+  pub other_hardware : arriving_arp station
+      (replicate 6 2 ++ replicate 6 4 ++ 0x08 ∷ 0x06 ∷ 0 ∷ 6 ∷ 0x08 ∷ 0 ∷ 6 ∷ 4 ∷ 0 ∷ 1 ∷ [] ++ replicate 6 4
+      ++ host ++ replicate 10 0) ≡ None

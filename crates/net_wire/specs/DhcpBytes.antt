@@ -1,12 +1,14 @@
--- The bytes of a DHCP message (RFC 2131, section 2, figure 1; options by RFC 2132), in this host's profile: each option
--- once in one order, no overload, no padding.
-use Rattle.std.specs.Prelude.{ℕ, ◌+◌, ◌<◌, ◌≤◌, ◌||◌, ◌==◌, Bool, List, [], ◌∷◌, ◌++◌, Option, Some, None, length, replicate, IfSome, if◌then◌else◌}
+-- The bytes of a DHCP message (RFC 2131, section 2, figure 1; options by RFC 2132), in this host's profile:
+-- each option once in one order, no overload, no padding.
+use Rattle.std.specs.Prelude.{ℕ, ◌+◌, ◌<◌, ◌≤◌, ◌||◌, ◌==◌, Bool, List, [], ◌∷◌, ◌++◌, Option, Some, None}
+use Rattle.std.specs.Prelude.{length, replicate, IfSome, if◌then◌else◌}
 use Rattle.std.specs.List.{flat_map, AllByRecursion}
 use Rattle.std.specs.Int.{to_be_bytes, w16, w32}
 use Rattle.net_wire.specs.declared.address.EthernetAddress.{EthernetAddress}
 use Rattle.net_wire.specs.declared.address.Ipv4Address.{Ipv4Address}
 use Rattle.net_wire.specs.declared.dhcp.DhcpMessageType.{DhcpMessageType}
-use Rattle.net_wire.specs.declared.dhcp.DhcpMessageType.TheVariants.{Discover, Offer, Request, Decline, Ack, Nak, Release, Inform, Unknown}
+use Rattle.net_wire.specs.declared.dhcp.DhcpMessageType.TheVariants.{Discover, Offer, Request, Decline}
+use Rattle.net_wire.specs.declared.dhcp.DhcpMessageType.TheVariants.{Ack, Nak, Release, Inform, Unknown}
 use Rattle.net_wire.specs.DhcpMessage.{Message, OptionValue}
 
 -- the number of a message type (RFC 2132, section 9.6)
@@ -21,7 +23,8 @@ type_number Release = 7
 type_number Inform = 8
 type_number (Unknown number) = number
 
--- the op by the number of the type: 2, BOOTREPLY, for an offer, an acknowledgement and a refusal, else 1, BOOTREQUEST
+-- the op by the number of the type: 2, BOOTREPLY, for an offer, an acknowledgement and a refusal, else 1,
+-- BOOTREQUEST
 abbrev pub op_of : ℕ → ℕ
 op_of number = if number == 2 || number == 5 || number == 6 then 2 else 1
 
@@ -29,19 +32,21 @@ op_of number = if number == 2 || number == 5 || number == 6 then 2 else 1
 abbrev pub flags_of : Bool → ℕ
 flags_of broadcast = if broadcast then 0x8000 else 0
 
--- the fixed part, up to the magic cookie (RFC 2131, section 3): hardware type 1, address length 6, no hops, sname or file
+-- the fixed part, up to the magic cookie (RFC 2131, section 3): hardware type 1, address length 6, no hops,
+-- sname or file
 unfoldable pub header_bytes : Message → List ℕ
 header_bytes m =
-    op_of (type_number m.message_type) ∷ 1 ∷ 6 ∷ 0 ∷ [] ++ to_be_bytes w32 m.transaction_id ++ to_be_bytes w16 m.secs
-    ++ to_be_bytes w16 (flags_of m.broadcast) ++ m.client_ip.0 ++ m.your_ip.0 ++ m.server_ip.0 ++ m.relay_agent_ip.0
+    op_of (type_number m.message_type) ∷ 1 ∷ 6 ∷ 0 ∷ [] ++ to_be_bytes w32 m.transaction_id
+    ++ to_be_bytes w16 m.secs ++ to_be_bytes w16 (flags_of m.broadcast)
+    ++ m.client_ip.0 ++ m.your_ip.0 ++ m.server_ip.0 ++ m.relay_agent_ip.0
     ++ m.client_hardware_address.0 ++ replicate (10 + 64 + 128) 0 ++ 0x63 ∷ 0x82 ∷ 0x53 ∷ 0x63 ∷ []
 
 -- an option: kind, length, bytes (RFC 2132, section 2)
 abbrev pub option_bytes : ℕ → List ℕ → List ℕ
 option_bytes kind bytes = kind ∷ length bytes ∷ bytes
 
--- the option of a kind where its value is there: an address, numbers, bytes, a list of addresses, a hardware address
--- behind its type (RFC 2132, section 9.14)
+-- the option of a kind where its value is there: an address, numbers, bytes, a list of addresses, a hardware
+-- address behind its type (RFC 2132, section 9.14)
 abbrev pub address_option : ℕ → Option Ipv4Address → List ℕ
 address_option kind None = []
 address_option kind (Some address) = option_bytes kind address.0
@@ -70,15 +75,16 @@ identifier_option kind (Some address) = option_bytes kind (1 ∷ address.0)
 abbrev pub additional_bytes : List OptionValue → List ℕ
 additional_bytes options = flat_map (λ option. option_bytes option.kind option.bytes) options
 
--- The options, in the order in which they are written: message type, client identifier, server identifier, router,
--- subnet mask, requested address, greatest message size, lease, renewal and rebinding times, parameter request list,
--- name servers, the caller's, end.
+-- The options, in the order in which they are written: message type, client identifier, server identifier,
+-- router, subnet mask, requested address, greatest message size, lease, renewal and rebinding times,
+-- parameter request list, name servers, the caller's, end.
 unfoldable pub options_bytes : Message → List ℕ
 options_bytes m =
     option_bytes 53 (type_number m.message_type ∷ []) ++ identifier_option 61 m.client_identifier
     ++ address_option 54 m.server_identifier ++ address_option 3 m.router ++ address_option 1 m.subnet_mask
-    ++ address_option 50 m.requested_ip ++ number16_option 57 m.max_size ++ number32_option 51 m.lease_duration
-    ++ number32_option 58 m.renew_duration ++ number32_option 59 m.rebind_duration
+    ++ address_option 50 m.requested_ip ++ number16_option 57 m.max_size
+    ++ number32_option 51 m.lease_duration ++ number32_option 58 m.renew_duration
+    ++ number32_option 59 m.rebind_duration
     ++ bytes_option 55 m.parameter_request_list ++ addresses_option 6 m.dns_servers
     ++ additional_bytes m.additional_options ++ 255 ∷ []
 
@@ -90,8 +96,8 @@ message_bytes m = header_bytes m ++ options_bytes m
 abbrev pub IsWritableOption : OptionValue → Type 0
 IsWritableOption option = (0 < option.kind) × (option.kind < 255) × (length option.bytes ≤ 255)
 
--- A message that can be written: a request list of one byte or more with a length of one byte, options that can be
--- written, and bytes that fit a UDP datagram in IPv4.
+-- A message that can be written: a request list of one byte or more with a length of one byte, options that
+-- can be written, and bytes that fit a UDP datagram in IPv4.
 pub record IsWritable (m : Message) : Type 0 where
   pub request_list : IfSome m.parameter_request_list (λ list. (0 < length list) × (length list ≤ 255))
   pub options : AllByRecursion IsWritableOption m.additional_options

@@ -12,16 +12,20 @@ item_of item = item_with item.kind item.bytes.now
 -- with one option more, each is that where it is of its kind
 pub record IsWith (item : Item) (old new : Found) : Type 0 where
   pub message_type : option_copied new.message_type ≡ newest_of 53 item (option_copied old.message_type)
-  pub client_identifier : option_copied new.client_identifier ≡ newest_of 61 item (option_copied old.client_identifier)
-  pub server_identifier : option_copied new.server_identifier ≡ newest_of 54 item (option_copied old.server_identifier)
+  pub client_identifier : option_copied new.client_identifier
+      ≡ newest_of 61 item (option_copied old.client_identifier)
+  pub server_identifier : option_copied new.server_identifier
+      ≡ newest_of 54 item (option_copied old.server_identifier)
   pub router : option_copied new.router ≡ newest_of 3 item (option_copied old.router)
   pub subnet_mask : option_copied new.subnet_mask ≡ newest_of 1 item (option_copied old.subnet_mask)
   pub requested_ip : option_copied new.requested_ip ≡ newest_of 50 item (option_copied old.requested_ip)
   pub max_size : option_copied new.max_size ≡ newest_of 57 item (option_copied old.max_size)
   pub lease_duration : option_copied new.lease_duration ≡ newest_of 51 item (option_copied old.lease_duration)
   pub renew_duration : option_copied new.renew_duration ≡ newest_of 58 item (option_copied old.renew_duration)
-  pub rebind_duration : option_copied new.rebind_duration ≡ newest_of 59 item (option_copied old.rebind_duration)
-  pub parameter_request_list : option_copied new.parameter_request_list ≡ newest_of 55 item (option_copied old.parameter_request_list)
+  pub rebind_duration : option_copied new.rebind_duration
+      ≡ newest_of 59 item (option_copied old.rebind_duration)
+  pub parameter_request_list : option_copied new.parameter_request_list
+      ≡ newest_of 55 item (option_copied old.parameter_request_list)
   pub dns_servers : option_copied new.dns_servers ≡ newest_of 6 item (option_copied old.dns_servers)
 
 -- each is the last of its kind

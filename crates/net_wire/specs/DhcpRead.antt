@@ -1,13 +1,16 @@
--- The DHCP message that bytes are (RFC 2131, section 2, figure 1; options by RFC 2132): in each kind, the last option of a
--- right length counts. The fields sname and file are not read, nor options that stand there by overload.
-use Rattle.std.specs.Prelude.{ℕ, ◌+◌, ◌&&◌, ◌==◌, Bool, nat_le, List, [], ◌∷◌, length, take, drop, slice_index, Option, Some, None, if◌then◌else◌}
+-- The DHCP message that bytes are (RFC 2131, section 2, figure 1; options by RFC 2132): in each kind, the
+-- last option of a right length counts. The fields sname and file are not read, nor options that stand there
+-- by overload.
+use Rattle.std.specs.Prelude.{ℕ, ◌+◌, ◌&&◌, ◌==◌, Bool, nat_le, List, [], ◌∷◌, length, take, drop}
+use Rattle.std.specs.Prelude.{slice_index, Option, Some, None, if◌then◌else◌}
 use Rattle.std.specs.Option.{option_map}
 use Rattle.std.specs.Int.{from_be_bytes, w16, w32}
 use Rattle.wire_base.specs.Bytes.{bytes_between, be16_at, be32_at, flag_at}
 use Rattle.net_wire.specs.declared.address.EthernetAddress.{EthernetAddress}
 use Rattle.net_wire.specs.declared.address.Ipv4Address.{Ipv4Address}
 use Rattle.net_wire.specs.declared.dhcp.DhcpMessageType.{DhcpMessageType}
-use Rattle.net_wire.specs.declared.dhcp.DhcpMessageType.TheVariants.{Discover, Offer, Request, Decline, Ack, Nak, Release, Inform, Unknown}
+use Rattle.net_wire.specs.declared.dhcp.DhcpMessageType.TheVariants.{Discover, Offer, Request, Decline}
+use Rattle.net_wire.specs.declared.dhcp.DhcpMessageType.TheVariants.{Ack, Nak, Release, Inform, Unknown}
 use Rattle.net_wire.specs.DhcpBytes.{op_of}
 use Rattle.net_wire.specs.DhcpMessage.{Message}
 use Rattle.net_wire.specs.DhcpOptions.{Item, items_of, last_of}
@@ -66,9 +69,12 @@ abbrev pub unicast_in : List ℕ → List Ipv4Address
 unicast_in (a ∷ b ∷ c ∷ d ∷ more) = with_unicast (address_with (a ∷ b ∷ c ∷ d ∷ [])) (unicast_in more)
 unicast_in other = []
 
--- The fixed part: 240 bytes, hardware type 1 with addresses of 6 bytes, and the magic cookie (RFC 2131, section 3).
+-- The fixed part: 240 bytes, hardware type 1 with addresses of 6 bytes, and the magic cookie (RFC 2131,
+-- section 3).
 abbrev pub is_header : List ℕ → Bool
-is_header bytes = nat_le 240 (length bytes) && (slice_index bytes 1 == 1) && (slice_index bytes 2 == 6) && (be32_at bytes 236 == 0x63825363)
+is_header bytes =
+    nat_le 240 (length bytes) && (slice_index bytes 1 == 1) && (slice_index bytes 2 == 6)
+    && (be32_at bytes 236 == 0x63825363)
 
 -- the message of bytes with these options and this type
 abbrev pub message_with : List ℕ → List Item → ℕ → Message
@@ -99,7 +105,8 @@ message_with bytes items number = record {
 -- a message has a type, and the op that is written for it
 abbrev pub message_of_type : List ℕ → List Item → Option ℕ → Option Message
 message_of_type bytes items None = None
-message_of_type bytes items (Some number) = if slice_index bytes 0 == op_of number then Some (message_with bytes items number) else None
+message_of_type bytes items (Some number) =
+    if slice_index bytes 0 == op_of number then Some (message_with bytes items number) else None
 
 abbrev pub message_of_items : List ℕ → List Item → Option Message
 message_of_items bytes items = message_of_type bytes items (byte_in (last_of 53 items))

@@ -1,5 +1,6 @@
 -- Reading a DHCP message that was written (RFC 2131, section 2; RFC 2132).
-use Rattle.std.specs.Prelude.{◌≡◌, ℕ, ◌^◌, ◌<◌, ◌≤◌, ◌||◌, ◌==◌, Bool, true, false, List, [], length, Some, IfSome}
+use Rattle.std.specs.Prelude.{◌≡◌, ℕ, ◌^◌, ◌<◌, ◌≤◌, ◌||◌, ◌==◌, Bool, true, false, List, []}
+use Rattle.std.specs.Prelude.{length, Some, IfSome}
 use Rattle.std.specs.List.{AllByRecursion}
 use Rattle.net_wire.specs.declared.address.Ipv4Address.{Ipv4Address}
 use Rattle.net_wire.specs.DhcpBytes.{IsWritableOption, message_bytes, type_number}
@@ -26,9 +27,9 @@ pub record AreNameServers (servers : List Ipv4Address) : Type 0 where
   pub few : length servers ≤ 3
   pub each : AllByRecursion (λ server. HasFour server × (is_unicast server ≡ true)) servers
 
--- A message that a client or a server writes so that it is read again: numbers and addresses as wide as their fields; a
--- type that is not a number where it has a name; a request list with bytes in it; name servers that reading keeps; and
--- options of the caller that reading passes over.
+-- A message that a client or a server writes so that it is read again: numbers and addresses as wide as their
+-- fields; a type that is not a number where it has a name; a request list with bytes in it; name servers that
+-- reading keeps; and options of the caller that reading passes over.
 pub record IsReadable (m : Message) : Type 0 where
   pub message_type : type_of_number (type_number m.message_type) ≡ m.message_type
   pub transaction_id : m.transaction_id < 2 ^ 32

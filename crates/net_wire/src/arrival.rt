@@ -1,6 +1,7 @@
 //! The frames that a station takes off the link, and the UDP datagrams in them.
 ghost use Rattle.std.specs.Prelude.{◌≡◌, ◌≤◌, length, option_map, IsTrue};
-ghost use Rattle.net_wire.specs.Arrival.{is_for, is_packet, is_udp_packet, has_udp, has_right_sum, has_packet_for, ip_header_len, total_len, udp_len, udp_datagram, packet_datagram, arriving_datagram};
+ghost use Rattle.net_wire.specs.Arrival.{is_for, is_packet, is_udp_packet, has_udp, has_right_sum, has_packet_for};
+ghost use Rattle.net_wire.specs.Arrival.{ip_header_len, total_len, udp_len, udp_datagram, packet_datagram, arriving_datagram};
 ghost use Rattle.net_wire.specs.ArrivalValues.{datagram_value};
 
 use crate::udp::pseudo_header;
@@ -133,9 +134,9 @@ fn has_packet_for(frame: &[u8], hardware: EthernetAddress) -> bool
     frame.len() >= 14 && read_be16(frame, 12) == 0x0800 && is_for(frame, hardware)
 }
 
-/// The UDP datagram that a frame carries to a station, if it carries one: in an untagged frame to the station or to a
-/// group, an IPv4 packet that is all there, from one host, with a right header sum and no fragment, and UDP right behind
-/// its header, with a right sum or none. Bytes behind the packet are not looked at.
+/// The UDP datagram that a frame carries to a station, if it carries one: in an untagged frame to the station or
+/// to a group, an IPv4 packet that is all there, from one host, with a right header sum and no fragment, and UDP
+/// right behind its header, with a right sum or none. Bytes behind the packet are not looked at.
 pub fn datagram_of(frame: &[u8], hardware: EthernetAddress) -> Option<Datagram<'_>>
     ensures { option_map datagram_value result ≡ arriving_datagram hardware frame.entry.now }
 {
