@@ -102,7 +102,7 @@ module _ (frame : List ℕ) (a to : ℕ) where
   chain_free [] start end held stop begins order inside within free = tt
   chain_free (p ∷ ps) start end held stop begins order inside within free =
       free_if p ps start end held begins inside free.0 (λ there_is. chain_free ps p.body p.end (with_header p.kind (header_at frame p) held) stop
-          (later p start inside.1 begins) inside.2 inside.4 there_is free.1) (is_extension p.kind) within
+      (later p start inside.1 begins) inside.2 inside.4 there_is free.1) (is_extension p.kind) within
 
 -- what an extension header and a transport header leave
 abbrev moved_ip : Place → Ipv6ExtensionSlice → FoundIp → FoundIp
@@ -190,9 +190,9 @@ module _ (frame : List ℕ) (a to : ℕ) where
       record { found = ip; is = is; header = refl; first = refl; last = at_start; held_is = refl }
   chain_found (p ∷ ps) r start end w ip begins high parts inside is at_start within =
       let got = found_if p ps r start end w ip begins high parts inside is at_start
-          (λ next next_is at_body room more. chain_found ps (behind p.kind (header_at frame p)) p.body p.end (with_part frame p (part_at frame p) w) next
-          (later frame a to p start inside.1 begins) more parts.1 inside.4 next_is at_body room)
-          (is_extension p.kind) refl within (parts_behind frame w (p ∷ ps)) refl in
+      (λ next next_is at_body room more. chain_found ps (behind p.kind (header_at frame p)) p.body p.end (with_part frame p (part_at frame p) w) next
+      (later frame a to p start inside.1 begins) more parts.1 inside.4 next_is at_body room)
+      (is_extension p.kind) refl within (parts_behind frame w (p ∷ ps)) refl in
       record { found = got.0; is = got.1; header = got.2; first = got.3; last = got.4; held_is = got.5 }
 
 -- no extension header, where none has bytes
@@ -304,7 +304,7 @@ module _ (frame : List ℕ) (p : Place) (ps : List Place) (turn : Turn) (start e
       let w1 = version_at frame p w p.kind (header_at frame p) (whole_at frame p) true is_ip four in
       let first = ap (λ (parts : Parts). parts.ip) w1 in
       let found = chain_found frame p.body (chain_end p.body ps) ps (behind p.kind (header_at frame p)) p.body p.end (with_part frame p (part_at frame p) w) _
-          (omega arith) (behind_at p.kind (header_at frame p) true is_ip four) ranked inside.4 first refl (omega arith) in
+      (omega arith) (behind_at p.kind (header_at frame p) true is_ip four) ranked inside.4 first refl (omega arith) in
       let same = some_same found.found ip (parts_behind frame w (p ∷ ps)).ip found.is is in
       let header = ap (λ (x : FoundIp). x.header) same in
       absurd (not_both (header_at frame p) h ip.header (sym header ∙ found.header) six)
@@ -317,26 +317,26 @@ module _ (frame : List ℕ) (p : Place) (ps : List Place) (turn : Turn) (start e
       let high = reach.1 in
       let last = inside.3 in
       let found = chain_found frame p.body (chain_end p.body ps) ps (behind p.kind (header_at frame p)) p.body p.end (with_part frame p (part_at frame p) w) _
-          (omega arith) (behind_at p.kind (header_at frame p) false is_ip four) ranked inside.4 first refl (omega arith) in
+      (omega arith) (behind_at p.kind (header_at frame p) false is_ip four) ranked inside.4 first refl (omega arith) in
       let same = some_same found.found ip (parts_behind frame w (p ∷ ps)).ip found.is is in
       let header = ap (λ (x : FoundIp). x.header) same in
       let h_is = v6_same (header_at frame p) h ip.header (sym header ∙ found.header) six in
       let first_is : ip.first.body ≡ p.body = sym (ap (λ (x : FoundIp). x.first.body) same) ∙ ap (λ (q : Place). q.body) found.first in
       let last_is : ip.last.body ≡ chain_end p.body ps = sym (ap (λ (x : FoundIp). x.last.body) same) ∙ found.last in
       let chain = chain_layout frame p.body (chain_end p.body ps) ps (packet_grammar.next turn (header_at frame p)) p.body p.end stop
-          (omega arith) inside.2 right inside.4 refl in
+      (omega arith) inside.2 right inside.4 refl in
       let zero : p.body - p.body ≡ 0 = omega arith in
       let turn_is : zeroed (packet_grammar.next turn (header_at frame p))
-          ≡ part_turn 0 false (first_extension_kind (slice_index (header_at frame p) 6)) (slice_index (header_at frame p) 6)
+      ≡ part_turn 0 false (first_extension_kind (slice_index (header_at frame p) 6)) (slice_index (header_at frame p) 6)
       = ap zeroed (next_at turn (header_at frame p) turn_ip four)
-          ∙ sym (part_zero turn.link_exts false (first_extension_kind (slice_index (header_at frame p) 6)) (slice_index (header_at frame p) 6)) in
+      ∙ sym (part_zero turn.link_exts false (first_extension_kind (slice_index (header_at frame p) 6)) (slice_index (header_at frame p) 6)) in
       let chain_right = rw (turn_is, zero) at (chain.1) in
       let free_there = chain_free frame p.body (chain_end p.body ps) ps p.body p.end (with_part frame p (part_at frame p) w).held stop (omega arith) inside.2 inside.4
-          (omega arith) free in
+      (omega arith) free in
       let holds = chain_holds_by frame (header_at frame p) ps p.body p.end ip.fragmented (parts_behind frame w (p ∷ ps)).held chain.0 (omega arith) low inside.4
-          chain_right (rw held_none at free_there) (found.held_is ∙ ap (λ held. held_by (slice_range frame p.body (chain_end p.body ps)) held
-          (chain_places p.body (chain_end p.body ps) ps)) held_none)
-          (length (slice_range frame p.body (chain_end p.body ps)) == 0) refl in
+      chain_right (rw held_none at free_there) (found.held_is ∙ ap (λ held. held_by (slice_range frame p.body (chain_end p.body ps)) held
+      (chain_places p.body (chain_end p.body ps) ps)) held_none)
+      (length (slice_range frame p.body (chain_end p.body ps)) == 0) refl in
       rw (first_is, last_is, ← h_is) holds
 
 located_if : (frame : List ℕ) (p : Place) (ps : List Place) (turn : Turn) (r start end : ℕ) (stop : Option (Stop SliceError)) (w : Parts) → end ≤ length frame
@@ -348,7 +348,7 @@ located_if : (frame : List ℕ) (p : Place) (ps : List Place) (turn : Turn) (r s
 located_if frame p ps turn r start end stop w within right inside ranked none held free again false is =
     let free_next = rw (← held_with frame p w) at (free.1) in
     again (none_ip frame p w p.kind (header_at frame p) (whole_at frame p) is none)
-        (λ low. held_with frame p w ∙ low_held p.kind (header_at frame p) w.held r is ranked.0.ranked held low) free_next
+    (λ low. held_with frame p w ∙ low_held p.kind (header_at frame p) w.held r is ranked.0.ranked held low) free_next
 located_if frame p ps turn r start end stop w within right inside ranked none held free again true is =
     let is_ip = ip_kind p.kind is in
     let at_kind : p.kind ≡ turn.kind = ap (λ (q : Place). q.kind) right.1 in
@@ -360,7 +360,7 @@ located_if frame p ps turn r start end stop w within right inside ranked none he
     let ranks : rank p.kind ≡ 2 = ap rank is_ip in
     let free_next = rw (← held_with frame p w) at (free.1) in
     chain_of_ip frame p ps turn start end stop w is_ip (sym at_kind ∙ is_ip) within (held (omega arith)) inside ranked.1 (rw same_header at (right.2)) free_next
-        (is_ipv4 (header_at frame p)) refl
+    (is_ipv4 (header_at frame p)) refl
 
 pub located : (frame : List ℕ) (places : List Place) (turn : Option Turn) (r start end : ℕ) (stop : Option (Stop SliceError)) (w : Parts) → end ≤ length frame
     → IsLayoutFrom packet_grammar frame turn start end places stop → AreNested start end places → AreParts frame r start end places
@@ -370,6 +370,6 @@ located frame (p ∷ ps) None r start end stop w within right inside ranked none
 located frame (p ∷ ps) (Some turn) r start end stop w within right inside ranked none held free =
     let last = inside.3 in
     located_if frame p ps turn r start end stop w within right inside ranked none held free
-        (λ none_there held_there free_there. located frame ps (packet_grammar.next turn (header packet_grammar turn.kind (slice_range frame start end)))
-        (behind p.kind (header_at frame p)) p.body p.end stop (with_part frame p (part_at frame p) w) (omega arith) right.2 inside.4 ranked.1
-        none_there held_there free_there) (is_ip_kind p.kind) refl
+    (λ none_there held_there free_there. located frame ps (packet_grammar.next turn (header packet_grammar turn.kind (slice_range frame start end)))
+    (behind p.kind (header_at frame p)) p.body p.end stop (with_part frame p (part_at frame p) w) (omega arith) right.2 inside.4 ranked.1
+    none_there held_there free_there) (is_ip_kind p.kind) refl

@@ -136,12 +136,12 @@ module _ (frame : List ℕ) (a to : ℕ) where
       let same = same_part (packet_grammar.form_of turn.kind) (to - start) (slice_range frame start end) open_end accepted_there in
       let len = same.same_len in
       let len_there : header_len (packet_grammar.form_of turn.kind) (slice_range (slice_range frame a to) (start - a) (to - a))
-          ≡ header_len (packet_grammar.form_of turn.kind) (slice_range frame start end)
+      ≡ header_len (packet_grammar.form_of turn.kind) (slice_range frame start end)
       = ap (header_len (packet_grammar.form_of turn.kind)) bytes ∙ sym same.same_len in
       let place = place_in_chain turn.kind (slice_range (slice_range frame a to) (start - a) (to - a)) (slice_range frame start end) start p.body to a
-          ext len_there body begins in
+      ext len_there body begins in
       let header_there : header packet_grammar turn.kind (slice_range (slice_range frame a to) (start - a) (to - a))
-          ≡ header packet_grammar turn.kind (slice_range frame start end)
+      ≡ header packet_grammar turn.kind (slice_range frame start end)
       = ap (header packet_grammar turn.kind) bytes ∙ same.same_header in
       let next = next_zero turn.kind turn.link_exts turn.fragmented (header packet_grammar turn.kind (slice_range frame start end)) ext in
       (rest.0, (rw bytes accepted_there, rw (at_kind, at_start) place, rw (header_there, next) (rest.1)))
@@ -171,6 +171,6 @@ module _ (frame : List ℕ) (a to : ℕ) where
   chain_layout (p ∷ ps) (Some turn) start end stop begins order right inside ends =
       let first = inside.1 in
       chain_by p ps turn start end begins order inside right.0 right.1
-          (λ there. chain_layout ps (packet_grammar.next turn (header packet_grammar turn.kind (slice_range frame start end))) p.body p.end stop
-          (omega arith) inside.2 right.2 inside.4 there)
-          (is_extension p.kind) refl ends
+      (λ there. chain_layout ps (packet_grammar.next turn (header packet_grammar turn.kind (slice_range frame start end))) p.body p.end stop
+      (omega arith) inside.2 right.2 inside.4 there)
+      (is_extension p.kind) refl ends

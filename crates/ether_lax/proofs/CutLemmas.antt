@@ -138,46 +138,71 @@ module _ (frame : List ℕ) (p : Place) (w : Parts) (r start end : ℕ) (fits : 
   fits_in : (kind_of : PartKind) (header whole : List ℕ) → r ≤ rank kind_of
       → Fits (behind kind_of header) p.body p.end (with_part frame p (part_in kind_of header whole) w)
   fits_in kind.Ethernet2 header whole ranked = record {
-    ip = early r 1 w.ip w.held.auth (omega arith) fits.ip; lies = moved;
-    arp = λ less. fits.arp (omega arith); transport = λ less. fits.transport (omega arith);
+    ip = early r 1 w.ip w.held.auth (omega arith) fits.ip;
+    lies = moved;
+    arp = λ less. fits.arp (omega arith);
+    transport = λ less. fits.transport (omega arith);
   }
   fits_in kind.LinuxSll header whole ranked = record {
-    ip = early r 1 w.ip w.held.auth (omega arith) fits.ip; lies = moved;
-    arp = λ less. fits.arp (omega arith); transport = λ less. fits.transport (omega arith);
+    ip = early r 1 w.ip w.held.auth (omega arith) fits.ip;
+    lies = moved;
+    arp = λ less. fits.arp (omega arith);
+    transport = λ less. fits.transport (omega arith);
   }
   fits_in kind.Vlan header whole ranked = record {
-    ip = early r 1 w.ip w.held.auth (omega arith) fits.ip; lies = moved;
-    arp = λ less. fits.arp (omega arith); transport = λ less. fits.transport (omega arith);
+    ip = early r 1 w.ip w.held.auth (omega arith) fits.ip;
+    lies = moved;
+    arp = λ less. fits.arp (omega arith);
+    transport = λ less. fits.transport (omega arith);
   }
   fits_in kind.Macsec header whole ranked = record {
-    ip = early r 1 w.ip w.held.auth (omega arith) fits.ip; lies = moved;
-    arp = λ less. fits.arp (omega arith); transport = λ less. fits.transport (omega arith);
+    ip = early r 1 w.ip w.held.auth (omega arith) fits.ip;
+    lies = moved;
+    arp = λ less. fits.arp (omega arith);
+    transport = λ less. fits.transport (omega arith);
   }
   fits_in kind.Arp header whole ranked = record {
-    ip = early r 6 w.ip w.held.auth (omega arith) fits.ip; lies = moved;
-    arp = λ less. absurd (omega arith); transport = λ less. absurd (omega arith);
+    ip = early r 6 w.ip w.held.auth (omega arith) fits.ip;
+    lies = moved;
+    arp = λ less. absurd (omega arith);
+    transport = λ less. absurd (omega arith);
   }
   fits_in kind.Ip header whole ranked = fits_version header (is_ipv4 header) (omega arith)
   fits_in kind.Ipv4Auth header whole ranked = record {
-    ip = fits_auth r p (extension.Authentication header) w.ip w.held.auth (Some header) fits.ip; lies = lies_ext p (extension.Authentication header) w.ip;
-    arp = λ less. fits.arp (omega arith); transport = λ less. fits.transport (omega arith);
+    ip = fits_auth r p (extension.Authentication header) w.ip w.held.auth (Some header) fits.ip;
+    lies = lies_ext p (extension.Authentication header) w.ip;
+    arp = λ less. fits.arp (omega arith);
+    transport = λ less. fits.transport (omega arith);
   }
   fits_in kind.Udp header whole ranked = record {
-    ip = late r w.ip w.held.auth fits.ip; lies = moved; arp = λ less. absurd (omega arith); transport = λ less. absurd (omega arith);
+    ip = late r w.ip w.held.auth fits.ip;
+    lies = moved;
+    arp = λ less. absurd (omega arith);
+    transport = λ less. absurd (omega arith);
   }
   fits_in kind.Tcp header whole ranked = record {
-    ip = late r w.ip w.held.auth fits.ip; lies = moved; arp = λ less. absurd (omega arith); transport = λ less. absurd (omega arith);
+    ip = late r w.ip w.held.auth fits.ip;
+    lies = moved;
+    arp = λ less. absurd (omega arith);
+    transport = λ less. absurd (omega arith);
   }
   fits_in kind.Icmpv4 header whole ranked = record {
-    ip = late r w.ip w.held.auth fits.ip; lies = moved; arp = λ less. absurd (omega arith); transport = λ less. absurd (omega arith);
+    ip = late r w.ip w.held.auth fits.ip;
+    lies = moved;
+    arp = λ less. absurd (omega arith);
+    transport = λ less. absurd (omega arith);
   }
   fits_in kind.Icmpv6 header whole ranked = record {
-    ip = late r w.ip w.held.auth fits.ip; lies = moved; arp = λ less. absurd (omega arith); transport = λ less. absurd (omega arith);
+    ip = late r w.ip w.held.auth fits.ip;
+    lies = moved;
+    arp = λ less. absurd (omega arith);
+    transport = λ less. absurd (omega arith);
   }
   fits_in other header whole ranked = record {
     ip = fits_chain r p (extension_slice other header) w.ip w.held.auth (with_extension (extension_slice other header) w.held).auth (omega arith) fits.ip;
     lies = lies_ext p (extension_slice other header) w.ip;
-    arp = λ less. fits.arp (omega arith); transport = λ less. fits.transport (omega arith);
+    arp = λ less. fits.arp (omega arith);
+    transport = λ less. fits.transport (omega arith);
   }
 
   pub fits_step : r ≤ rank p.kind → Fits (behind p.kind (header_at frame p)) p.body p.end (with_part frame p (part_at frame p) w)
@@ -364,8 +389,15 @@ module _ (frame : List ℕ) (n : ℕ) (p : Place) (r start end : ℕ) (c w : Par
       cut = record {
         exts = same.cut.exts;
         ip = record {
-          header = refl; first = refl; order = omega arith; no_later = omega arith; inside = room; together = λ fits_in_n. refl; ends = refl;
-          window = window; auth = rw same.auth (kept_same (V4 header) w.held.auth);
+          header = refl;
+          first = refl;
+          order = omega arith;
+          no_later = omega arith;
+          inside = room;
+          together = λ fits_in_n. refl;
+          ends = refl;
+          window = window;
+          auth = rw same.auth (kept_same (V4 header) w.held.auth);
         };
         arp = no_arp c.arp w.arp w.arp w.ip _ (fits.arp (omega arith)) same.cut.arp;
         transport = same.cut.transport;
@@ -378,8 +410,15 @@ module _ (frame : List ℕ) (n : ℕ) (p : Place) (r start end : ℕ) (c w : Par
       cut = record {
         exts = same.cut.exts;
         ip = record {
-          header = refl; first = refl; order = omega arith; no_later = omega arith; inside = room; together = λ fits_in_n. refl; ends = refl;
-          window = window; auth = tt;
+          header = refl;
+          first = refl;
+          order = omega arith;
+          no_later = omega arith;
+          inside = room;
+          together = λ fits_in_n. refl;
+          ends = refl;
+          window = window;
+          auth = tt;
         };
         arp = no_arp c.arp w.arp w.arp w.ip _ (fits.arp (omega arith)) same.cut.arp;
         transport = same.cut.transport;
@@ -398,8 +437,15 @@ module _ (frame : List ℕ) (n : ℕ) (p : Place) (r start end : ℕ) (c w : Par
         let begins = lies.0 in
         let from_header = cut.order in
         record {
-          header = cut.header; first = cut.first; order = omega arith; no_later = omega arith; inside = room; together = λ fits_in_n. refl;
-          ends = refl; window = window; auth = rw eq (kept_same j.header other);
+          header = cut.header;
+          first = cut.first;
+          order = omega arith;
+          no_later = omega arith;
+          inside = room;
+          together = λ fits_in_n. refl;
+          ends = refl;
+          window = window;
+          auth = rw eq (kept_same j.header other);
         }
 
     ext_same : (ext : Ipv6ExtensionSlice) (ci wi : Option FoundIp) → IsSameIp ci wi → IsSameIp (extended q ext ci) (extended p ext wi)
@@ -426,7 +472,10 @@ module _ (frame : List ℕ) (n : ℕ) (p : Place) (r start end : ℕ) (c w : Par
     same_arp : (packet : List ℕ) → r ≤ 2 → IsSame n (with_part (take n frame) q (part.Arp packet) c) (with_part frame p (part.Arp packet) w)
     same_arp packet low = record {
       cut = record {
-        exts = same.cut.exts; ip = same.cut.ip; arp = (refl, (none_yet r w.ip w.held.auth low fits.ip).0); transport = same.cut.transport;
+        exts = same.cut.exts;
+        ip = same.cut.ip;
+        arp = (refl, (none_yet r w.ip w.held.auth low fits.ip).0);
+        transport = same.cut.transport;
       };
       count = same.count;
       auth = same.auth;
@@ -442,9 +491,9 @@ module _ (frame : List ℕ) (n : ℕ) (p : Place) (r start end : ℕ) (c w : Par
         same_ext n _ _ (TagPart kept) (TagPart whole) (same_last n c w (Some q) (Some p) same) (tag_cut (n - p.start) kept whole is has)
     same_in kind.Macsec header kept whole ranked is has =
         same_ext n _ _ (macsec_part header (is_incomplete (take n frame) q) (source_at (take n frame) q) (window_at (take n frame) q))
-            (macsec_part header (is_incomplete frame p) (source_at frame p) (window_at frame p)) (same_last n c w (Some q) (Some p) same)
-            (macsec_cut header (window_at (take n frame) q) (window_at frame p) _ _ _ _ (macsec_next_ether_type header)
-            (rw (range_cut frame n p.body p.end room) (front (n - p.body) (window_at frame p))))
+        (macsec_part header (is_incomplete frame p) (source_at frame p) (window_at frame p)) (same_last n c w (Some q) (Some p) same)
+        (macsec_cut header (window_at (take n frame) q) (window_at frame p) _ _ _ _ (macsec_next_ether_type header)
+        (rw (range_cut frame n p.body p.end room) (front (n - p.body) (window_at frame p))))
     same_in kind.Arp header kept whole ranked is has = same_arp header (omega arith)
     same_in kind.Ip header kept whole ranked is has = same_version header (is_ipv4 header) (omega arith)
     same_in kind.Udp header kept whole ranked is has = same_transport n c w _ _ _ _ same (udp_cut (n - p.start) kept whole is has)

@@ -33,7 +33,10 @@ more_ext n c w y cut = record { exts = exts_more c.exts w.exts y cut.exts; ip = 
 more_transport : (n : ℕ) (c w : Parts) (t : TransportSlice) (y : Option Place) → w.transport ≡ None → IsCut n c w
     → IsCut n c (record w { transport = Some t; last = y })
 more_transport n c w t y none cut = record {
-  exts = cut.exts; ip = cut.ip; arp = cut.arp; transport = no_transport c.transport w.transport (Some t) none cut.transport;
+  exts = cut.exts;
+  ip = cut.ip;
+  arp = cut.arp;
+  transport = no_transport c.transport w.transport (Some t) none cut.transport;
 }
 
 module _ (frame : List ℕ) (n : ℕ) (p : Place) (r start end : ℕ) (c w : Parts) (fits : Fits r start end w)
@@ -62,8 +65,14 @@ module _ (frame : List ℕ) (n : ℕ) (p : Place) (r start end : ℕ) (c w : Par
         let b = found.ends in
         let e = lies.1 in
         record {
-          header = found.header; first = found.first; order = found.order; no_later = omega arith; inside = found.inside;
-          together = λ fits_in_n. absurd (omega arith); ends = omega arith; window = window;
+          header = found.header;
+          first = found.first;
+          order = found.order;
+          no_later = omega arith;
+          inside = found.inside;
+          together = λ fits_in_n. absurd (omega arith);
+          ends = omega arith;
+          window = window;
           auth = kept_version r j.header kept auth new low fits_ip found.auth;
         }
 
@@ -77,7 +86,10 @@ module _ (frame : List ℕ) (n : ℕ) (p : Place) (r start end : ℕ) (c w : Par
 
     more_arp : (packet : List ℕ) → r ≤ 2 → IsCut n c (with_part frame p (part.Arp packet) w)
     more_arp packet low = record {
-      exts = cut.exts; ip = cut.ip; arp = no_arp c.arp w.arp (Some packet) w.ip w.ip (fits.arp (omega arith)) cut.arp; transport = cut.transport;
+      exts = cut.exts;
+      ip = cut.ip;
+      arp = no_arp c.arp w.arp (Some packet) w.ip w.ip (fits.arp (omega arith)) cut.arp;
+      transport = cut.transport;
     }
 
     more_in : (kind_of : PartKind) (header whole : List ℕ) → r ≤ rank kind_of → IsCut n c (with_part frame p (part_in kind_of header whole) w)
@@ -117,7 +129,7 @@ grown frame n c (p ∷ ps) r start end w past parts fits cut =
     let step = fits_step frame p w r start end fits (omega arith) one.within one.ranked in
     let more = more_in frame n p r start end c w fits one.window one.within cut past p.kind (header_at frame p) (whole_at frame p) one.ranked in
     grown frame n c ps (behind p.kind (header_at frame p)) p.body p.end (with_part frame p (part_at frame p) w)
-        (past_next frame n (behind p.kind (header_at frame p)) p.body p.end ps past parts.1) parts.1 step more
+    (past_next frame n (behind p.kind (header_at frame p)) p.body p.end ps past parts.1) parts.1 step more
 
 -- an ICMP message is the last part
 rank_icmp : (part_kind : PartKind) (header : List ℕ) → is_icmp part_kind ≡ true → (rank part_kind ≡ 5) × (behind part_kind header ≡ 6)
@@ -179,7 +191,7 @@ module _ (frame : List ℕ) (n : ℕ) where
       let header : slice_range (take n frame) p.start p.body ≡ header_at frame p = header_kept frame n p.start p.body (omega arith) inside in
       let whole = range_cut frame n p.start p.end (omega arith) in
       let both = same_in frame n p r start end c w fits one.order one.window one.within inside same p.kind (header_at frame p)
-          (slice_range (take n frame) p.start (min p.end n)) (whole_at frame p) one.ranked whole (rw at_start room) in
+      (slice_range (take n frame) p.start (min p.end n)) (whole_at frame p) one.ranked whole (rw at_start room) in
       again (behind p.kind (header_at frame p)) p.body p.end _ _ inside parts.1 step (rw header both)
 
   by_kind : (p : Place) (ps : List Place) (r start end : ℕ) (c w : Parts) → start ≤ n → AreParts frame r start end (p ∷ ps) → Fits r start end w → IsSame n c w

@@ -185,12 +185,14 @@ are_parts frame (p ∷ ps) (Some turn) r start end stop from right inside =
     let next = next_from turn.kind turn.link_exts turn.fragmented (header packet_grammar turn.kind (slice_range frame start end)) in
     let rest = are_parts frame ps (packet_grammar.next turn (header packet_grammar turn.kind (slice_range frame start end)))
     (behind turn.kind (header packet_grammar turn.kind (slice_range frame start end))) p.body p.end stop next right.2 inside.4 in
-    let moved : AreParts frame (behind p.kind (header_at frame p)) p.body p.end ps = rw (at_kind, ← same_header) rest in
-    (record {
-      ranked = rw at_kind from;
-      begins = inside.0;
-      body = rw at_kind at_body;
-      order = inside.1;
-      window = inside.2;
-      within = inside.3;
-    }, moved)
+    let moved : AreParts frame (behind p.kind (header_at frame p)) p.body p.end ps = rw (at_kind, ← same_header) rest in (
+      record {
+        ranked = rw at_kind from;
+        begins = inside.0;
+        body = rw at_kind at_body;
+        order = inside.1;
+        window = inside.2;
+        within = inside.3;
+      },
+      moved,
+    )

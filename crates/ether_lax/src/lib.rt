@@ -3,6 +3,7 @@
 #![tactic(auto)]
 
 pub mod ether_payload;
+pub mod examples;
 mod found;
 mod headers;
 pub mod ip;
@@ -31,8 +32,8 @@ pub use ipv6::LaxIpv6Slice;
 pub use link_ext::LaxLinkExtSlice;
 pub use macsec::{LaxMacsecPayloadSlice, LaxMacsecSlice};
 pub use net::LaxNetSlice;
-pub use noted::{Ipv4Datagram, NotedFrame, packet_and_note};
 pub use note::{FrameNote, NetKind, TransportKind, note_of};
+pub use noted::{Ipv4Datagram, NotedFrame, packet_and_note};
 pub use packet_headers::LaxPacketHeaders;
 pub use payload::LaxPayloadSlice;
 pub use sliced_packet::LaxSlicedPacket;
