@@ -3,6 +3,8 @@
 
 pub mod address;
 pub mod dhcp;
+#[cfg(test)]
+mod dhcp_tests;
 pub mod dns;
 pub mod error;
 pub mod ethernet;
