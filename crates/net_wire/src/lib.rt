@@ -5,6 +5,8 @@ pub mod address;
 pub mod arp;
 pub mod arrival;
 pub mod dhcp;
+#[cfg(test)]
+mod dhcp_tests;
 pub mod dns;
 pub mod error;
 pub mod ethernet;
