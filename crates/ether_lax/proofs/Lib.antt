@@ -1,6 +1,9 @@
 pub mod FoundLemmas
 pub mod IpLemmas
+pub mod MacsecLemmas
 pub mod MapLemmas
 pub mod ReadLemmas
 pub mod StepLemmas
+pub mod TagLemmas
+pub mod VersionLemmas
 pub mod WalkLemmas
