@@ -22,7 +22,7 @@ use Rattle.ether_lax.specs.declared.step.Part.{Part}
 use Rattle.ether_lax.specs.declared.step.Part.TheVariants.{Ethernet2, LinuxSll, Vlan, Macsec, Arp, Ipv4, Ipv6, Extension, Transport}
 use Rattle.ether_lax.proofs.MapLemmas.{ip_accepts}
 
-all_bytes : (bytes : List ℕ) → slice_range bytes 0 (length bytes) ≡ bytes
+pub all_bytes : (bytes : List ℕ) → slice_range bytes 0 (length bytes) ≡ bytes
 all_bytes bytes =
     let whole : length bytes - 0 ≡ length bytes = omega arith in
     rw whole (take_all (length bytes) bytes (omega arith))

@@ -6,9 +6,12 @@ pub mod CutPacketLemmas
 pub mod CutResultLemmas
 pub mod FoundLemmas
 pub mod IpLemmas
+pub mod MacsecLemmas
 pub mod MapLemmas
 pub mod RankLemmas
 pub mod OneIpLemmas
 pub mod ReadLemmas
 pub mod StepLemmas
+pub mod TagLemmas
+pub mod VersionLemmas
 pub mod WalkLemmas

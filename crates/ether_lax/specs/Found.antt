@@ -20,8 +20,9 @@ use Rattle.ether_lax.specs.declared.found.FoundIp.{FoundIp}
 use Rattle.ether_lax.specs.declared.found.IpHeader.{IpHeader}
 use Rattle.ether_lax.specs.declared.found.IpHeader.TheVariants as version
 
--- the link extensions, the source of the windows behind them, and whether the last one lacks bytes and what it carries; an ARP packet; an IP header and how far its extension headers reach, and
--- these in their places; the part of the transport layer; and the last part of all
+-- the link extensions, the source of the windows behind them, and whether the last one lacks bytes and what it
+-- carries; an ARP packet; an IP header and how far its extension headers reach, and these in their places; the
+-- part of the transport layer; and the last part of all
 pub record Parts : Type 0 where
   pub exts : List LinkExtPart
   pub link_source : LenSource
@@ -96,20 +97,32 @@ with_part frame place (Ethernet2 bytes) parts = record parts { last = Some place
 with_part frame place (LinuxSll bytes) parts = record parts { last = Some place }
 with_part frame place (Vlan bytes) parts = with_ext (TagPart bytes) (record parts { last = Some place })
 with_part frame place (Macsec header) parts =
-    with_ext (macsec_part header (is_incomplete frame place) (source_at frame place) (window_at frame place)) (record parts { last = Some place })
+    with_ext (macsec_part header (is_incomplete frame place) (source_at frame place) (window_at frame place))
+    (record parts { last = Some place })
 with_part frame place (Arp packet) parts = record parts { arp = Some packet; last = Some place }
 with_part frame place (Ipv4 header) parts =
-    record parts { ip = Some (ip_found frame place (version.V4 header) (slice_index header 9) (is_ipv4_fragment header)); last = Some place }
+    record parts {
+      ip = Some (ip_found frame place (version.V4 header) (slice_index header 9) (is_ipv4_fragment header));
+      last = Some place;
+    }
 with_part frame place (Ipv6 header) parts =
-    record parts { ip = Some (ip_found frame place (version.V6 header) (slice_index header 6) false); last = Some place }
+    record parts {
+      ip = Some (ip_found frame place (version.V6 header) (slice_index header 6) false);
+      last = Some place;
+    }
 with_part frame place (Extension header) parts =
-    record parts { ip = extended place header parts.ip; held = with_extension header parts.held; last = Some place }
+    record parts {
+      ip = extended place header parts.ip;
+      held = with_extension header parts.held;
+      last = Some place;
+    }
 with_part frame place (Transport part) parts = record parts { transport = Some part; last = Some place }
 
 -- the parts at some places, behind others
 abbrev pub parts_behind : List ℕ → Parts → List Place → Parts
 parts_behind frame parts [] = parts
-parts_behind frame parts (place ∷ more) = parts_behind frame (with_part frame place (part_at frame place) parts) more
+parts_behind frame parts (place ∷ more) =
+    parts_behind frame (with_part frame place (part_at frame place) parts) more
 
 abbrev pub parts_of : List ℕ → List Place → Parts
 parts_of frame places = parts_behind frame no_parts places

@@ -1,4 +1,5 @@
--- What the headers of a packet as structs hold: the parts of the one layout, up to an extension header whose place is taken.
+-- What the headers of a packet as structs hold: the parts of the one layout, up to an extension header whose
+-- place is taken.
 use Rattle.std.specs.Prelude.{◌≡◌, ℕ, Bool, true, false, List, length, map, Option, Some, None, option_map}
 use Rattle.ether_link.specs.Arp.{arp_packet}
 use Rattle.ether_link.specs.Layout.{IsLayoutFrom}
@@ -6,7 +7,11 @@ use Rattle.ether_link.specs.declared.err.layers.Layer.{Layer}
 use Rattle.ether_link.specs.declared.len_source.LenSource.{LenSource}
 use Rattle.ether_link.specs.declared.len_source.LenSource.TheVariants.{Slice}
 use Rattle.ether_link.specs.declared.link.LinkExtHeader.{LinkExtHeader}
+use Rattle.ether_link.specs.LinuxSll.{linux_sll_header}
+use Rattle.ether_link.specs.declared.link.LinkHeader.TheVariants as link
+use Rattle.ether_link.specs.declared.link.linux_sll.LinuxSllHeader.{LinuxSllHeader}
 use Rattle.ether_link.specs.declared.layout.PartKind.{PartKind}
+use Rattle.ether_link.specs.declared.layout.PartKind.TheVariants.{LinuxSll}
 use Rattle.ether_link.specs.declared.layout.Place.{Place}
 use Rattle.ether_link.specs.declared.layout.Stop.{Stop}
 use Rattle.ether_link.specs.declared.layout.Turn.{Turn}
@@ -24,8 +29,9 @@ use Rattle.ether_ip.specs.declared.transport.TransportHeader.{TransportHeader}
 use Rattle.ether_ip.specs.declared.transport.TransportSlice.{TransportSlice}
 use Rattle.ether_lax.specs.Found.{Parts, parts_of}
 use Rattle.ether_lax.specs.LinkExts.{header_of_ext}
-use Rattle.ether_lax.specs.Payloads.{Carried, OfIp, carried_in, carried_in_transport}
+use Rattle.ether_lax.specs.Payloads.{Carried, OfIp, carried_in, carried_in_transport, carried_by_cooked}
 use Rattle.ether_lax.specs.Sliced.{payload_at}
+use Rattle.ether_lax.specs.Steps.{begins_with}
 use Rattle.ether_lax.specs.Stops.{source_of_ip, headers_source, told}
 use Rattle.ether_lax.specs.Walks.{kept_places, kept_stop}
 use Rattle.ether_lax.specs.declared.found.FoundIp.{FoundIp}
@@ -35,7 +41,8 @@ use Rattle.ether_lax.specs.declared.packet_headers.LaxPacketHeaders.{LaxPacketHe
 
 -- the headers of the network layer
 abbrev pub ip_headers : ExtensionPlaces → IpHeader → NetHeaders
-ip_headers held (V4 header) = net.Ipv4 (ipv4_header header) (record { auth = option_map auth_header held.auth })
+ip_headers held (V4 header) =
+    net.Ipv4 (ipv4_header header) (record { auth = option_map auth_header held.auth })
 ip_headers held (V6 header) = net.Ipv6 (ipv6_header header) (extensions_of held)
 
 abbrev pub net_headers : ExtensionPlaces → Option FoundIp → Option (List ℕ) → Option NetHeaders
@@ -89,9 +96,18 @@ headers_of frame start parts stop = record {
 }
 
 -- the packet holds the headers of the layout of the bytes from a turn on, up to one whose place is taken
-pub record HoldsHeaders (frame : List ℕ) (first : Option Turn) (start : Carried) (packet : LaxPacketHeaders) : Type 0 where
+pub record HoldsHeaders (frame : List ℕ) (first : Option Turn) (start : Carried) (packet : LaxPacketHeaders)
+    : Type 0 where
   pub places : List Place
   pub stop : Option (Stop SliceError)
   pub layout : IsLayoutFrom packet_grammar frame first 0 (length frame) places stop
   pub holds : headers_in packet
-      ≡ headers_of frame start (parts_of frame (kept_places true frame places)) (kept_stop true frame places stop)
+      ≡ headers_of frame start (parts_of frame (kept_places true frame places))
+      (kept_stop true frame places stop)
+
+-- the packet holds the header of a cooked packet and those behind it
+pub record HoldsCooked (bytes : List ℕ) (packet : LaxPacketHeaders) : Type 0 where
+  pub header : LinuxSllHeader
+  pub header_is : Some header ≡ linux_sll_header bytes
+  pub link : packet.link ≡ Some (link.LinuxSll header)
+  pub layout : HoldsHeaders bytes (begins_with LinuxSll) (carried_by_cooked header.protocol_type bytes) packet

@@ -1,4 +1,5 @@
--- Link extensions, as values: a tag, or a security tag with its payload (IEEE 802.1Q, section 9.6; IEEE 802.1AE, section 9).
+-- Link extensions, as values: a tag, or a security tag with its payload (IEEE 802.1Q, section 9.6; IEEE 802.1AE,
+-- section 9).
 use Rattle.std.specs.Prelude.{ℕ, Bool, true, false, if◌then◌else◌, List, length, drop, Option, Some, None}
 use Rattle.wire_base.specs.Bytes.{be16_at}
 use Rattle.ether_link.specs.Macsec.{macsec_next_ether_type, macsec_header}
@@ -51,11 +52,13 @@ ext_in (Macsec macsec) = macsec_in macsec
 -- a security tag with its payload
 abbrev pub secured : List ℕ → Bool → LenSource → List ℕ → Option EtherType → LinkExtPart
 secured header incomplete source bytes (Some ether_type) =
-    SecuredPart header (record { incomplete = incomplete; ether_type = ether_type; source = source; bytes = bytes })
+    SecuredPart header
+    (record { incomplete = incomplete; ether_type = ether_type; source = source; bytes = bytes })
 secured header incomplete source bytes None = ModifiedPart header incomplete bytes
 
 abbrev pub macsec_part : List ℕ → Bool → LenSource → List ℕ → LinkExtPart
-macsec_part header incomplete source bytes = secured header incomplete source bytes (macsec_next_ether_type header)
+macsec_part header incomplete source bytes =
+    secured header incomplete source bytes (macsec_next_ether_type header)
 
 -- the length is that of the slice
 abbrev pub is_slice : LenSource → Bool

@@ -49,7 +49,9 @@ part_at frame place = part_in place.kind (header_at frame place) (whole_at frame
 -- the part that some bytes begin with
 abbrev pub part_of : PartKind → List ℕ → Part
 part_of part bytes = part_in part (header packet_grammar part bytes)
-    (take (window_end 0 (length bytes) (packet_grammar.announced part (header packet_grammar part bytes))) bytes)
+    (take
+    (window_end 0 (length bytes) (packet_grammar.announced part (header packet_grammar part bytes)))
+    bytes)
 
 -- how many bytes a part has with its window
 abbrev pub there : Place → ℕ
@@ -57,7 +59,8 @@ there place = place.end - place.start
 
 -- where the end of the window is from, of a header that has so many bytes with its window
 abbrev pub source_by : PartKind → List ℕ → ℕ → LenSource
-source_by kind.Macsec header bytes = source_of_length MacsecShortLength 0 bytes (packet_grammar.announced kind.Macsec header)
+source_by kind.Macsec header bytes =
+    source_of_length MacsecShortLength 0 bytes (packet_grammar.announced kind.Macsec header)
 source_by kind.Ip header bytes = ip_source header 0 bytes
 source_by other header bytes = Slice
 
@@ -66,4 +69,5 @@ source_at frame place = source_by place.kind (header_at frame place) (there plac
 
 -- the header announces more bytes than there are
 abbrev pub is_incomplete : List ℕ → Place → Bool
-is_incomplete frame place = is_cut_off 0 (there place) (packet_grammar.announced place.kind (header_at frame place))
+is_incomplete frame place =
+    is_cut_off 0 (there place) (packet_grammar.announced place.kind (header_at frame place))

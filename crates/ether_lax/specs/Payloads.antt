@@ -2,7 +2,9 @@
 use Rattle.std.specs.Prelude.{ℕ, Bool, false, List, [], drop, Option, Some, None}
 use Rattle.wire_base.specs.Bytes.{be16_at}
 use Rattle.ether_link.specs.declared.len_source.LenSource.{LenSource}
+use Rattle.ether_link.specs.declared.len_source.LenSource.TheVariants.{Slice}
 use Rattle.ether_link.specs.declared.link.linux_sll.LinuxSllProtocolType.{LinuxSllProtocolType}
+use Rattle.ether_link.specs.declared.link.linux_sll.LinuxSllProtocolType.TheVariants as protocol
 use Rattle.ether_ip.specs.Transport.{payload_of_transport}
 use Rattle.ether_ip.specs.declared.transport.TransportSlice.{TransportSlice}
 use Rattle.ether_ip.specs.declared.transport.TransportSlice.TheVariants as part
@@ -56,9 +58,17 @@ carried_by source (TagPart bytes) = OfLink (record {
 carried_by source (SecuredPart header payload) = OfLink (record payload { source = source })
 carried_by source (ModifiedPart header incomplete bytes) = OfModified bytes incomplete
 
+-- what a cooked packet carries: a payload that an ether type names, or one of its protocol
+abbrev pub carried_by_cooked : LinuxSllProtocolType → List ℕ → Carried
+carried_by_cooked (protocol.EtherType ether_type) packet =
+    OfLink (record { incomplete = false; ether_type = ether_type; source = Slice; bytes = drop 16 packet })
+carried_by_cooked other packet = OfCooked other (drop 16 packet)
+
 -- what a part of the transport layer carries, in an IP packet that lacks bytes or not
 abbrev pub carried_in_transport : TransportSlice → Bool → Carried
 carried_in_transport (part.Udp bytes) incomplete = OfUdp (payload_of_transport (part.Udp bytes)) incomplete
 carried_in_transport (part.Tcp bytes) incomplete = OfTcp (payload_of_transport (part.Tcp bytes)) incomplete
-carried_in_transport (part.Icmpv4 bytes) incomplete = OfIcmpv4 (payload_of_transport (part.Icmpv4 bytes)) incomplete
-carried_in_transport (part.Icmpv6 bytes) incomplete = OfIcmpv6 (payload_of_transport (part.Icmpv6 bytes)) incomplete
+carried_in_transport (part.Icmpv4 bytes) incomplete =
+    OfIcmpv4 (payload_of_transport (part.Icmpv4 bytes)) incomplete
+carried_in_transport (part.Icmpv6 bytes) incomplete =
+    OfIcmpv6 (payload_of_transport (part.Icmpv6 bytes)) incomplete

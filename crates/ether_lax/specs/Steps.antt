@@ -43,14 +43,16 @@ pub record IsBetween (start end : ℕ) (place : Place) : Type 0 where
   pub window : place.body ≤ place.end
   pub within : place.end ≤ end
 
--- the part whose turn it is, in the bytes of a frame from `start` to `end`, where it lies, what it says of its window, and what it names
-pub record IsStep (frame : List ℕ) (turn : Turn) (start end : ℕ) (place : Place) (part : Part) (source : LenSource) (incomplete : Bool)
-    (next : Option Turn) : Type 0 where
+-- the part whose turn it is, in the bytes of a frame from `start` to `end`, where it lies, what it says of its
+-- window, and what it names
+pub record IsStep (frame : List ℕ) (turn : Turn) (start end : ℕ) (place : Place) (part : Part)
+    (source : LenSource) (incomplete : Bool) (next : Option Turn) : Type 0 where
   pub place_is : place ≡ place_of packet_grammar turn.kind (slice_range frame start end) start end
   pub part_is : part ≡ part_at frame place
   pub source_is : source ≡ source_at frame place
   pub incomplete_is : incomplete ≡ is_incomplete frame place
-  pub next_is : next ≡ packet_grammar.next turn (header packet_grammar turn.kind (slice_range frame start end))
+  pub next_is : next
+      ≡ packet_grammar.next turn (header packet_grammar turn.kind (slice_range frame start end))
   pub between : IsBetween start end place
 
 -- the turn of the part that a frame begins with

@@ -1,4 +1,5 @@
--- What stopped a dissection, as callers are told: with the place of the refused part and the source of its length.
+-- What stopped a dissection, as callers are told: with the place of the refused part and the source of its
+-- length.
 use Rattle.std.specs.Prelude.{ℕ, Bool, true, false, if◌then◌else◌, Option, Some, None}
 use Rattle.ether_link.specs.Places.{layer_of_kind}
 use Rattle.ether_link.specs.declared.err.layers.Layer.{Layer}
@@ -43,7 +44,8 @@ sliced_source other link ip = Slice
 
 -- a refusal of a part at a place, whose length is from there unless it has a field of its own
 abbrev pub placed : LenSource → ℕ → SliceError → SliceError
-placed source start (Len error) = Len (record error { len_source = or_source error.len_source source; layer_start_offset = start })
+placed source start (Len error) =
+    Len (record error { len_source = or_source error.len_source source; layer_start_offset = start })
 placed source start error = error
 
 -- what stopped, and at which layer
@@ -80,7 +82,9 @@ at_layer layer (Some refusal) = Some (refusal, layer)
 abbrev pub ip_stop : LenSource → Option (Stop SliceError) → Option (chain.HeaderSliceError × Layer)
 ip_stop source None = None
 ip_stop source (Some stop) =
-    if is_chain stop.kind then at_layer (layer_of_kind stop.kind) (chain_refusal (placed source stop.start stop.refusal)) else None
+    if is_chain stop.kind
+    then at_layer (layer_of_kind stop.kind) (chain_refusal (placed source stop.start stop.refusal))
+    else None
 
 -- the same, where the length of a link payload is from no field
 abbrev pub headers_source : PartKind → LenSource → LenSource

@@ -1,4 +1,5 @@
--- The walk along the parts of a packet, in two shapes: along all of them, or up to an extension header whose place is taken.
+-- The walk along the parts of a packet, in two shapes: along all of them, or up to an extension header whose place
+-- is taken.
 use Rattle.std.specs.Prelude.{◌≡◌, ℕ, ◌<◌, ◌≤◌, Bool, if◌then◌else◌, List, length, Option, Some, None}
 use Rattle.ether_link.specs.Layout.{IsLayoutFrom}
 use Rattle.ether_link.specs.declared.len_source.LenSource.{LenSource}
@@ -19,7 +20,8 @@ use Rattle.ether_lax.specs.declared.step.Part.TheVariants.{Vlan, Macsec}
 abbrev pub kept_from : Bool → List ℕ → ExtensionPlaces → List Place → List Place
 kept_from in_places frame held places = if in_places then free_places frame held places else places
 
-abbrev pub stop_from : Bool → List ℕ → ExtensionPlaces → List Place → Option (Stop SliceError) → Option (Stop SliceError)
+abbrev pub stop_from : Bool → List ℕ → ExtensionPlaces → List Place → Option (Stop SliceError)
+    → Option (Stop SliceError)
 stop_from in_places frame held places stop = if in_places then free_stop frame held places stop else stop
 
 abbrev pub kept_places : Bool → List ℕ → List Place → List Place
@@ -29,7 +31,8 @@ abbrev pub kept_stop : Bool → List ℕ → List Place → Option (Stop SliceEr
 kept_stop in_places frame places stop = stop_from in_places frame no_extensions places stop
 
 -- the parts of a frame's layout and its stop
-pub record IsWalked (in_places : Bool) (frame : List ℕ) (first : Option Turn) (parts : Parts) (stop : Option (Stop SliceError)) : Type 0 where
+pub record IsWalked (in_places : Bool) (frame : List ℕ) (first : Option Turn) (parts : Parts)
+    (stop : Option (Stop SliceError)) : Type 0 where
   pub places : List Place
   pub last : Option (Stop SliceError)
   pub layout : IsLayoutFrom packet_grammar frame first 0 (length frame) places last
@@ -50,7 +53,8 @@ pub record IsOf (frame : List ℕ) (place : Place) (source : LenSource) (incompl
 -- the headers of an IP packet lie in a frame, up to a place
 abbrev pub IsInside : ℕ → ℕ → Option FoundIp → Type 0
 IsInside len at None = Unit {0}
-IsInside len at (Some ip) = (ip.first.body ≤ ip.last.body) × (ip.last.body ≤ at) × (ip.last.body ≤ ip.last.end) × (ip.last.end ≤ len)
+IsInside len at (Some ip) =
+    (ip.first.body ≤ ip.last.body) × (ip.last.body ≤ at) × (ip.last.body ≤ ip.last.end) × (ip.last.end ≤ len)
 
 -- the last part lies in a frame
 abbrev pub LiesIn : ℕ → Option Place → Type 0

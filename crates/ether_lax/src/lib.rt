@@ -25,6 +25,8 @@ pub mod step;
 mod stops;
 mod walk;
 
+pub use ether_ip::LaxIpPayloadSlice;
+pub use ether_ip::err::ip::LaxHeaderSliceError;
 pub use ether_payload::LaxEtherPayloadSlice;
 pub use ip::LaxIpSlice;
 pub use ipv4::LaxIpv4Slice;

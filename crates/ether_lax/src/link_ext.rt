@@ -38,24 +38,43 @@ impl<'a> LaxLinkExtSlice<'a> {
     pub fn payload(&self) -> Option<LaxEtherPayloadSlice<'a>>
         ensures value { option_map ether_in result ≡ payload_of_ext (ext_in self.now) }
     {
+        self.payload_in(LenSource::Slice)
+    }
+}
+
+impl<'a> LaxLinkExtSlice<'a> {
+    ghost use Rattle.ether_lax.specs.EtherParts.{payload_in_window};
+    ghost use Rattle.ether_lax.specs.LinkExts.{ext_in, ether_in, source_behind};
+    ghost use Rattle.ether_lax.specs.Payloads.{carried_in, carried_by};
+
+    /// The payload, where it is neither encrypted nor changed; that of a tag in a window whose length is
+    /// from a source.
+    pub(crate) fn payload_in(&self, len_source: LenSource) -> Option<LaxEtherPayloadSlice<'a>>
+        ensures { option_map ether_in result ≡ payload_in_window len_source (ext_in self.now) }
+    {
         match self {
             LaxLinkExtSlice::Vlan(tag) => {
                 let payload = tag.payload();
                 Some(LaxEtherPayloadSlice {
                     incomplete: false,
                     ether_type: payload.ether_type,
-                    len_source: payload.len_source,
+                    len_source,
                     payload: payload.payload,
                 })
             }
             LaxLinkExtSlice::Macsec(macsec) => macsec.ether_payload(),
         }
     }
-}
 
-impl<'a> LaxLinkExtSlice<'a> {
-    ghost use Rattle.ether_lax.specs.LinkExts.{ext_in};
-    ghost use Rattle.ether_lax.specs.Payloads.{carried_in, carried_by};
+    /// The source of the windows behind it, by the one of those before it.
+    pub(crate) fn source_behind(&self, before: LenSource) -> LenSource
+        ensures { result ≡ source_behind before (ext_in self.now) }
+    {
+        match self {
+            LaxLinkExtSlice::Vlan(_) => before,
+            LaxLinkExtSlice::Macsec(macsec) => macsec.source_behind(before),
+        }
+    }
 
     /// What it carries, in a window whose length is from a source.
     pub(crate) fn carried(&self, len_source: LenSource) -> LaxPayloadSlice<'a>

@@ -2,9 +2,12 @@
 ghost use Rattle.std.specs.Prelude.{◌≡◌, ◌↔◌, IsSome, Some, option_map, map};
 ghost use Rattle.ether_link.specs.Form.{Reads};
 ghost use Rattle.ether_link.specs.Macsec.{macsec_slice_form};
+ghost use Rattle.ether_lax.specs.MacsecParts.{macsec_of};
 
 use crate::LaxEtherPayloadSlice;
-use ether_link::{EtherType, LenSource, MacsecHeaderSlice};
+use crate::step::next_layer;
+use ether_link::err::macsec::HeaderSliceError;
+use ether_link::{EtherType, LenSource, MacsecHeaderSlice, PartKind, Turn};
 
 /// A security tag and its payload.
 #[derive(Clone, Debug, Drop, PartialEq, Eq)]
@@ -28,6 +31,27 @@ pub enum LaxMacsecPayloadSlice<'a> {
 
 impl<'a> LaxMacsecSlice<'a> {
     ghost use Rattle.ether_lax.specs.LinkExts.{macsec_in, macsec_part, source_behind, is_cut, ether_in, payload_of_ext, type_of_ext};
+
+    /// A security tag and its payload, or as much of it as is there. It is refused where the tag is.
+    #[tactic(auto, using(crate::proofs::MacsecLemmas::accepted_whole, crate::proofs::MacsecLemmas::part_of_whole))]
+    pub fn from_slice(slice: &'a [u8]) -> Result<LaxMacsecSlice<'a>, HeaderSliceError>
+        ensures value { Reads macsec_slice_form slice.now result
+            (λ part. macsec_in part ≡ macsec_of slice.now) }
+    {
+        let header = MacsecHeaderSlice::from_slice(slice)?;
+        let turn = Turn {
+            kind: PartKind::Macsec,
+            link_exts: 0,
+            fragmented: false,
+        };
+        match next_layer(slice, turn, 0, slice.len()) {
+            Ok(layer) => {
+                let payload = &slice[layer.place.body..layer.place.end];
+                Ok(LaxMacsecSlice::of_parts(header, layer.incomplete, layer.len_source, payload))
+            }
+            Err(_) => unreachable!(),
+        }
+    }
 
     /// A tag with the bytes behind it, of which some may be missing, as its short length says.
     pub(crate) fn of_parts(

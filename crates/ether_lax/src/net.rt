@@ -28,3 +28,36 @@ impl<'a> LaxNetSlice<'a> {
         }
     }
 }
+
+impl<'a> From<LaxIpv4Slice<'a>> for LaxNetSlice<'a> {
+    ghost use Rattle.ether_lax.specs.declared.net.LaxNetSlice.TheVariants.{Ipv4};
+
+    ghost from_gives = { λ source part. part ≡ Ipv4 source };
+
+    fn from(packet: LaxIpv4Slice<'a>) -> Self {
+        LaxNetSlice::Ipv4(packet)
+    }
+}
+
+impl<'a> From<LaxIpv6Slice<'a>> for LaxNetSlice<'a> {
+    ghost use Rattle.ether_lax.specs.declared.net.LaxNetSlice.TheVariants.{Ipv6};
+
+    ghost from_gives = { λ source part. part ≡ Ipv6 source };
+
+    fn from(packet: LaxIpv6Slice<'a>) -> Self {
+        LaxNetSlice::Ipv6(packet)
+    }
+}
+
+impl<'a> From<LaxIpSlice<'a>> for LaxNetSlice<'a> {
+    ghost use Rattle.ether_lax.specs.Addresses.{net_of_packet};
+
+    ghost from_gives = { λ source part. part ≡ net_of_packet source };
+
+    fn from(packet: LaxIpSlice<'a>) -> Self {
+        match packet {
+            LaxIpSlice::Ipv4(packet) => LaxNetSlice::Ipv4(packet),
+            LaxIpSlice::Ipv6(packet) => LaxNetSlice::Ipv6(packet),
+        }
+    }
+}

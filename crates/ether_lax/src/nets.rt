@@ -22,19 +22,9 @@ pub(crate) fn net_by<'a>(
     ensures { option_map net_in result ≡ net_by frame.now auth.entry ip.entry arp.entry }
 {
     match (ip, arp) {
-        (Some(ip), _) => Some(net_of_ip(ip_by(frame, auth, ip))),
+        (Some(ip), _) => Some(LaxNetSlice::from(ip_by(frame, auth, ip))),
         (None, Some(packet)) => Some(LaxNetSlice::Arp(packet)),
         (None, None) => None,
-    }
-}
-
-/// An IP packet as a part of the network layer.
-pub(crate) fn net_of_ip(packet: LaxIpSlice<'_>) -> LaxNetSlice<'_>
-    ensures { net_in result ≡ ip_in packet.entry }
-{
-    match packet {
-        LaxIpSlice::Ipv4(packet) => LaxNetSlice::Ipv4(packet),
-        LaxIpSlice::Ipv6(packet) => LaxNetSlice::Ipv6(packet),
     }
 }
 

@@ -4,10 +4,12 @@ ghost use Rattle.wire_base.specs.Bytes.{be16_at};
 ghost use Rattle.ether_link.specs.Form.{Reads, no_map};
 ghost use Rattle.ether_link.specs.Ethernet2.{ethernet2_form, ethernet2_header};
 ghost use Rattle.ether_link.specs.LinkGrammar.{by_ether_type};
+ghost use Rattle.ether_link.specs.LinuxSll.{linux_sll_slice_form};
 ghost use Rattle.ether_link.specs.declared.len_source.LenSource.TheVariants.{Slice};
 ghost use Rattle.ether_link.specs.declared.layout.PartKind.TheVariants as kind;
 ghost use Rattle.ether_link.specs.declared.link.LinkHeader.TheVariants as header;
 ghost use Rattle.ether_ip.specs.Ip.{ip_slice_form};
+ghost use Rattle.ether_lax.specs.Payloads.{carried_in, carried_by_cooked};
 
 use crate::headers::headers;
 use crate::step::{by_ether_type, first};
@@ -16,8 +18,13 @@ use arrayvec::ArrayVec;
 use ether_ip::err::ip::LaxHeaderSliceError;
 use ether_ip::err::packet::SliceError;
 use ether_ip::{NetHeaders, TransportHeader, ip_header_len};
+use ether_link::err::linux_sll::HeaderSliceError;
 use ether_link::err::{Layer, LenError};
-use ether_link::{EtherType, Ethernet2Slice, LenSource, LinkExtHeader, LinkHeader, PartKind};
+use ether_link::{
+    DoubleVlanHeader, EtherType, Ethernet2Slice, LenSource, LinkExtHeader, LinkHeader,
+    LinuxSllPayloadSlice, LinuxSllProtocolType, LinuxSllSlice, PartKind, SingleVlanHeader,
+    VlanHeader, VlanId,
+};
 
 /// The headers of a packet as structs: every header that is there, and what stopped the dissection.
 /// There is one place for each extension header of IPv6, and one more for destination options behind a
@@ -38,10 +45,11 @@ pub struct LaxPacketHeaders<'a> {
 
 impl<'a> LaxPacketHeaders<'a> {
     ghost use Rattle.ether_lax.specs.Agreement.{AgreeOn, FindsPlaces};
-    ghost use Rattle.ether_lax.specs.Headers.{HoldsHeaders};
+    ghost use Rattle.ether_lax.specs.Headers.{HoldsHeaders, HoldsCooked};
     ghost use Rattle.ether_lax.specs.Payloads.{OfLink, Nothing};
     ghost use Rattle.ether_lax.specs.Sliced.{HoldsLayout};
     ghost use Rattle.ether_lax.specs.Steps.{begins_with};
+    ghost use Rattle.ether_lax.specs.Tags.{tag_headers, first_headers, header_ids};
     ghost use Rattle.ether_lax.specs.declared.sliced_packet.LaxSlicedPacket.{LaxSlicedPacket};
 
     /// How many link extensions are read at most.
@@ -79,7 +87,12 @@ impl<'a> LaxPacketHeaders<'a> {
     pub fn from_ether_type(ether_type: EtherType, slice: &'a [u8]) -> LaxPacketHeaders<'a>
         ensures link { result.link ≡ None }
         ensures value { HoldsHeaders slice.now (by_ether_type 0 ether_type.0)
-            (OfLink (record { incomplete = false; ether_type = ether_type; source = Slice; bytes = slice.now })) result }
+            (OfLink (record {
+              incomplete = false;
+              ether_type = ether_type;
+              source = Slice;
+              bytes = slice.now;
+            })) result }
         ensures agrees { (packet : LaxSlicedPacket)
             → HoldsLayout slice.now (by_ether_type 0 ether_type.0) packet
             → FindsPlaces slice.now (by_ether_type 0 ether_type.0) → AgreeOn packet result }
@@ -103,5 +116,84 @@ impl<'a> LaxPacketHeaders<'a> {
     {
         let _header_len = ip_header_len(slice)?;
         Ok(headers(slice, None, LaxPayloadSlice::Empty, first(PartKind::Ip)))
+    }
+
+    /// The headers of a packet of a Linux cooked capture. It is refused where its first header is.
+    pub fn from_linux_sll(slice: &'a [u8]) -> Result<LaxPacketHeaders<'a>, HeaderSliceError>
+        ensures value { Reads linux_sll_slice_form slice.now result
+            (λ packet. HoldsCooked slice.now packet) }
+    {
+        let packet = LinuxSllSlice::from_slice(slice)?;
+        let header = packet.to_header();
+        let start = cooked_payload(&packet, header.protocol_type);
+        let link = Some(LinkHeader::LinuxSll(header));
+        Ok(headers(slice, link, start, first(PartKind::LinuxSll)))
+    }
+
+    /// The first VLAN tag, or the first two.
+    pub fn vlan(&self) -> Option<VlanHeader>
+        ensures value { result ≡ first_headers (tag_headers self.now.link_exts.items) }
+    {
+        let tags = self.tags();
+        match tags.as_slice() {
+            [] => None,
+            [tag] => Some(VlanHeader::Single(*tag)),
+            [outer, inner, ..] => Some(VlanHeader::Double(DoubleVlanHeader {
+                outer: *outer,
+                inner: *inner,
+            })),
+        }
+    }
+
+    /// The numbers of the VLAN tags.
+    #[tactic(auto, using(crate::proofs::TagLemmas::tag_headers_more, crate::proofs::TagLemmas::header_ids_more, crate::proofs::TagLemmas::header_ids_len))]
+    pub fn vlan_ids(&self) -> ArrayVec<VlanId, 3>
+        ensures value { result.items ≡ header_ids (tag_headers self.now.link_exts.items) }
+    {
+        let mut ids = ArrayVec::new();
+        for ext in self.link_exts.as_slice() {
+            if let LinkExtHeader::Vlan(tag) = ext {
+                ids.push(tag.vlan_id);
+            }
+        }
+        ids
+    }
+
+    /// The VLAN tags.
+    #[tactic(auto, using(crate::proofs::TagLemmas::tag_headers_more, crate::proofs::TagLemmas::tag_headers_len))]
+    fn tags(&self) -> ArrayVec<SingleVlanHeader, 3>
+        ensures { result.items ≡ tag_headers self.now.link_exts.items }
+    {
+        let mut tags = ArrayVec::new();
+        for ext in self.link_exts.as_slice() {
+            if let LinkExtHeader::Vlan(tag) = ext {
+                tags.push(*tag);
+            }
+        }
+        tags
+    }
+}
+
+/// What a cooked packet carries.
+fn cooked_payload<'a>(
+    packet: &LinuxSllSlice<'a>,
+    protocol_type: LinuxSllProtocolType,
+) -> LaxPayloadSlice<'a>
+    ensures { carried_in result ≡ carried_by_cooked protocol_type packet.now }
+{
+    let payload = packet.payload().payload;
+    match protocol_type {
+        LinuxSllProtocolType::EtherType(ether_type) => {
+            LaxPayloadSlice::Ether(LaxEtherPayloadSlice {
+                incomplete: false,
+                ether_type,
+                len_source: LenSource::Slice,
+                payload,
+            })
+        }
+        protocol_type => LaxPayloadSlice::LinuxSll(LinuxSllPayloadSlice {
+            protocol_type,
+            payload,
+        }),
     }
 }
