@@ -2,20 +2,18 @@
 use Rattle.std.proofs.Common.{◌≡◌, ℕ, ◌+◌, ◌<◌, ◌≤◌, ℤ, pos, ◌<ℤ◌, ◌≤ℤ◌, Bool, true, false, cond, ◌&&◌, ◌||◌, not, Ok, Err, refl, sym, subst, rules, tests, arith}
 use Rattle.std.proofs.lemmas.Int.{ints, clamps}
 use Rattle.std.specs.Int.{int_min}
-use Rattle.std.specs.Prelude.{int_le, int_lt, nat_le, Result, ⊤}
-use Rattle.net_wire.specs.declared.address.Ipv4Address.{Ipv4Address}
+use Rattle.std.specs.Prelude.{int_le, int_lt, nat_le, Result}
 use Rattle.net_wire.specs.declared.error.Context.{Context}
 use Rattle.net_wire.specs.declared.error.EmitError.{EmitError}
 use Rattle.net_wire.specs.Time.{instant_after, micros_between}
 use Rattle.dhcp_client.specs.declared.state.ClientState.{ClientState}
 use Rattle.dhcp_client.specs.declared.state.ClientState.TheVariants.{Discovering, Requesting, Renewing}
 use Rattle.dhcp_client.specs.declared.state.Lease.{Lease}
-use Rattle.dhcp_client.specs.declared.state.ServerInfo.{ServerInfo}
-use Rattle.dhcp_client.specs.Client.{Client, poll_at_of, after_reset}
+use Rattle.dhcp_client.specs.Client.{Client, poll_at_of}
 use Rattle.dhcp_client.specs.Config.{ClientSettings}
 use Rattle.dhcp_client.specs.Ending.{last_instant, IsOrdered, KeepsOrder, HasTimeouts, MovesDue, LeavesFewer, calls_of, calls_left}
 use Rattle.dhcp_client.specs.Messages.{Outgoing}
-use Rattle.dhcp_client.specs.Plan.{Plan, Wait, Restart, Send, Dispatched, plan_in, plan_for, lease_plan, renew_plan, rebind_plan, request_plan, discover_plan, discover_of, request_of, is_early, is_for_server, renewed_at, rebinding_at}
+use Rattle.dhcp_client.specs.Plan.{Plan, Wait, Restart, Send, Dispatched, plan_in, renew_plan, rebind_plan, discover_of, request_of, is_early, is_for_server, renewed_at, rebinding_at}
 use Rattle.dhcp_client.specs.Times.{request_span, renew_span, rebind_span}
 use Rattle.dhcp_client.proofs.SpanLemmas.{later, not_before, some_left, within, below_all, renew_some, renew_short, rebind_some, request_some}
 
@@ -216,3 +214,15 @@ ends (Renewing lease) settings id cx word timeouts room ordered due =
     (asks_server cx.now lease.rebind_at lease.rebinding server)))
     (λ _. sent_fewer cx.now (Renewing lease) rebound due
     (rebind_moves lease settings cx word timeouts room (goes_on lease cx.now going)))))
+
+-- the same of a dispatch: what is left of it is fewer
+pub left : {E : Type 0} (took refused : E → E → Outgoing → Type 0) (now : ℤ) (plan : Plan) (old new : Client) (out later_out : E)
+    → LeavesFewer now old.state plan → Dispatched took refused plan (Ok tt) old new out later_out
+    → calls_left now new.state < calls_left now old.state
+left took refused now Wait old new out later_out fewer done = absurd fewer
+left took refused now Restart old new out later_out fewer done =
+    let P : Client → Type 0 = λ c. calls_left now c.state < calls_left now old.state in
+    subst P (sym done.1) fewer
+left took refused now (Send outgoing before after) old new out later_out fewer done =
+    let P : Client → Type 0 = λ c. calls_left now c.state < calls_left now old.state in
+    subst P (sym done.1) fewer

@@ -1,5 +1,5 @@
 -- What is granted has its dues in order, and so has a client after any message.
-use Rattle.std.proofs.Common.{◌≡◌, ℕ, ℤ, ◌≤ℤ◌, Bool, true, false, cond, List, refl}
+use Rattle.std.proofs.Common.{ℕ, ℤ, ◌≤ℤ◌, Bool, true, false, cond, List}
 use Rattle.std.specs.Prelude.{Option, Some, None, ⊤}
 use Rattle.net_wire.specs.declared.address.Ipv4Address.{Ipv4Address}
 use Rattle.net_wire.specs.declared.dhcp.DhcpMessageType.{DhcpMessageType}
@@ -13,7 +13,7 @@ use Rattle.dhcp_client.specs.declared.state.ServerInfo.{ServerInfo}
 use Rattle.dhcp_client.specs.Client.{Client}
 use Rattle.dhcp_client.specs.Config.{ClientSettings}
 use Rattle.dhcp_client.specs.Ending.{IsOrdered}
-use Rattle.dhcp_client.specs.Heard.{Granted, Heard, Nothing, AnOffer, AnAck, ARefusal, prefix_in, server_with, granted_by, offer_heard, ack_with, ack_heard, refusal_heard, heard_by_type, heard_from, heard_in, is_for, is_taken}
+use Rattle.dhcp_client.specs.Heard.{Granted, Heard, Nothing, AnOffer, AnAck, ARefusal, prefix_in, server_with, ack_with, heard_by_type, heard_from, heard_in, is_for, is_taken}
 use Rattle.dhcp_client.specs.Hearing.{after_offer, after_ack, after_refusal, after_heard, with_packet, after_bytes, after_message}
 use Rattle.dhcp_client.specs.Times.{lease_span, spans}
 use Rattle.dhcp_client.proofs.SpanLemmas.{grows, spans_ordered}

@@ -1,14 +1,13 @@
 -- How long the client's messages are, and that they can be written.
-use Rattle.std.proofs.Common.{◌≡◌, ℕ, ◌+◌, ◌-◌, ◌≤◌, ◌<◌, List, [], ◌∷◌, ◌++◌, length, replicate, arith, length-append}
+use Rattle.std.proofs.Common.{◌≡◌, ℕ, ◌+◌, ◌-◌, ◌≤◌, ◌<◌, List, [], ◌∷◌, ◌++◌, length, arith, length-append}
 use Rattle.std.specs.Prelude.{Option, Some}
 use Rattle.std.specs.List.{AllByRecursion}
-use Rattle.std.specs.Int.{to_be_bytes, w32}
 use Rattle.net_wire.specs.declared.address.EthernetAddress.{EthernetAddress}
 use Rattle.net_wire.specs.DhcpBytes.{message_bytes, header_bytes, options_bytes, additional_bytes, address_option, option_bytes, identifier_option, number16_option, type_number, bytes_option, IsWritable, IsWritableOption}
 use Rattle.net_wire.specs.DhcpMessage.{OptionValue}
 use Rattle.net_wire.specs.declared.address.Ipv4Address.{Ipv4Address}
 use Rattle.net_wire.specs.declared.dhcp.DhcpMessageType.{DhcpMessageType}
-use Rattle.dhcp_client.specs.Messages.{client_message, unspecified}
+use Rattle.dhcp_client.specs.Messages.{client_message}
 
 length-five : (a b c d e : List ℕ) → length (a ++ b ++ c ++ d ++ e) ≡ length a + length b + length c + length d + length e
 length-five a b c d e = simp length-append

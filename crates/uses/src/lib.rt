@@ -7,6 +7,7 @@ pub mod dissection;
 pub mod headers;
 pub mod ipsec;
 pub mod layers;
+pub mod leases;
 #[cfg(test)]
 mod packet_tests;
 pub mod printing;
