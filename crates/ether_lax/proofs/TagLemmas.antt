@@ -58,6 +58,20 @@ ids_with exts i ext tag id ids there is tagged id_is ids_are =
     let last : ids_of (tags_of (ext_in ext ∷ [])) ≡ id ∷ [] = rw (tagged, id_is) refl in
     sym (ids_next exts i ext there is ∙ (rw (last, ids_are) refl))
 
+-- the tags themselves
+pub tags_with : (exts : List LaxLinkExtSlice) (i : ℕ) (ext : LaxLinkExtSlice) (tag copy : List ℕ) (tags : List (List ℕ)) → i < length exts → ext ≡ get_or exts i ext
+    → ext ≡ extension.Vlan tag → copy ≡ tag → tags ≡ tags_of (map ext_in (take i exts))
+    → tags ++ copy ∷ [] ≡ tags_of (map ext_in (take (i + 1) exts))
+tags_with exts i ext tag copy tags there is tagged same tags_are =
+    let last : tags_of (ext_in ext ∷ []) ≡ copy ∷ [] = rw (tagged, same) refl in
+    sym (tags_more exts i ext there is ∙ (rw (last, tags_are) refl))
+
+pub tags_same : (exts : List LaxLinkExtSlice) (i : ℕ) (ext : LaxLinkExtSlice) (macsec : LaxMacsecSlice) → i < length exts → ext ≡ get_or exts i ext
+    → ext ≡ extension.Macsec macsec → tags_of (map ext_in (take (i + 1) exts)) ≡ tags_of (map ext_in (take i exts))
+tags_same exts i ext macsec there is secured =
+    let none : tags_of (ext_in ext ∷ []) ≡ [] = rw secured (no_tag macsec) in
+    tags_more exts i ext there is ∙ (rw none (append-nil (tags_of (map ext_in (take i exts)))))
+
 tags_fit : (exts : List LinkExtPart) → length (tags_of exts) ≤ length exts
 tags_fit [] = omega arith
 tags_fit (TagPart bytes ∷ more) = let rest = tags_fit more in omega arith

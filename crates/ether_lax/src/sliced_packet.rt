@@ -19,8 +19,8 @@ use ether_ip::err::packet::SliceError;
 use ether_ip::{LaxIpPayloadSlice, TransportSlice, ip_header_len};
 use ether_link::err::{Layer, LenError};
 use ether_link::{
-    EtherPayloadSlice, EtherType, Ethernet2Slice, LenSource, LinkSlice, LinuxSllProtocolType,
-    PartKind, VlanId,
+    DoubleVlanSlice, EtherPayloadSlice, EtherType, Ethernet2Slice, LenSource, LinkSlice,
+    LinuxSllProtocolType, PartKind, SingleVlanSlice, VlanId, VlanSlice,
 };
 
 /// A packet cut into slices: every part that is there, and what stopped the dissection.
@@ -43,7 +43,7 @@ impl<'a> LaxSlicedPacket<'a> {
     ghost use Rattle.ether_lax.specs.Nets.{net_in, payload_of_ip, payload_of_net};
     ghost use Rattle.ether_lax.specs.Sliced.{HoldsLayout, IsPayloadLink, sliced_in};
     ghost use Rattle.ether_lax.specs.Steps.{begins_with};
-    ghost use Rattle.ether_lax.specs.Tags.{tags_of, ids_of};
+    ghost use Rattle.ether_lax.specs.Tags.{first_tags, tags_of, ids_of};
     ghost use Rattle.ether_lax.specs.declared.sliced_packet.LaxSlicedPacket.{LaxSlicedPacket};
 
     /// How many link extensions are read at most.
@@ -84,6 +84,36 @@ impl<'a> LaxSlicedPacket<'a> {
     {
         let _header_len = ip_header_len(slice)?;
         Ok(sliced(slice, None, first(PartKind::Ip)))
+    }
+
+    /// The first VLAN tag, or the first two.
+    pub fn vlan(&self) -> Option<VlanSlice<'a>>
+        ensures value { result ≡ first_tags (tags_of (map ext_in self.now.link_exts.items)) }
+    {
+        let tags = self.tags();
+        match tags.as_slice() {
+            [] => None,
+            [tag] => Some(VlanSlice::SingleVlan(tag.copied())),
+            [outer, inner, ..] => Some(VlanSlice::DoubleVlan(DoubleVlanSlice {
+                outer: outer.copied(),
+                inner: inner.copied(),
+            })),
+        }
+    }
+
+    /// The VLAN tags.
+    #[tactic(auto, using(crate::proofs::TagLemmas::tags_more, crate::proofs::TagLemmas::no_tag, crate::proofs::TagLemmas::tags_len))]
+    fn tags(&self) -> ArrayVec<SingleVlanSlice<'a>, 3>
+        ensures { result.items ≡ tags_of (map ext_in self.now.link_exts.items) }
+    {
+        let mut tags = ArrayVec::new();
+        for ext in self.link_exts.as_slice() {
+            match ext {
+                LaxLinkExtSlice::Vlan(tag) => tags.push(tag.copied()),
+                LaxLinkExtSlice::Macsec(_) => {}
+            }
+        }
+        tags
     }
 
     /// The numbers of the VLAN tags.

@@ -69,6 +69,13 @@ impl<'a> SingleVlanSlice<'a> {
         self.slice
     }
 
+    /// The same tag, as a copy that takes no memory.
+    pub fn copied(&self) -> SingleVlanSlice<'a>
+        ensures value { result ≡ self.now }
+    {
+        SingleVlanSlice { slice: self.slice }
+    }
+
     /// The priority code point, 0 to 7.
     pub fn pcp(&self) -> u8
         ensures value { result ≡ slice_index self.now 0 / 32 }
