@@ -1,5 +1,5 @@
 -- The client as a value, without where its lists lie in memory.
-use Rattle.std.specs.Prelude.{ℕ, ℤ, pos, Bool, true, false, ◌||◌, List, [], Option, None, int_lt, if◌then◌else◌}
+use Rattle.std.specs.Prelude.{ℕ, ℤ, pos, Bool, true, false, ◌||◌, List, [], Option, None, if◌then◌else◌}
 use Rattle.std.specs.Int.{int_min}
 use Rattle.net_wire.specs.declared.address.Ipv4Address.{Ipv4Address}
 use Rattle.dhcp_client.specs.declared.state.ClientState.{ClientState}

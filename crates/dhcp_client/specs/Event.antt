@@ -1,5 +1,5 @@
 -- What the client tells its host of its configuration.
-use Rattle.std.specs.Prelude.{ℕ, Bool, List, Option, Some, None, if◌then◌else◌}
+use Rattle.std.specs.Prelude.{ℕ, List, Option, Some, None, if◌then◌else◌}
 use Rattle.std.specs.Option.{option_copied}
 use Rattle.net_wire.specs.declared.address.Ipv4Address.{Ipv4Address}
 use Rattle.net_wire.specs.declared.address.Ipv4Cidr.{Ipv4Cidr}

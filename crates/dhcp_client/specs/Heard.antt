@@ -1,9 +1,8 @@
 -- What a client makes of a message (RFC 2131, sections 4.4.1 and 4.4.5).
-use Rattle.std.specs.Prelude.{ℕ, ◌-◌, ◌^◌, ◌==◌, ◌&&◌, ◌||◌, ℤ, Bool, not, true, false, nat_eq, List, [], Option, Some, None, map, position, if◌then◌else◌}
+use Rattle.std.specs.Prelude.{ℕ, ◌-◌, ◌^◌, ◌==◌, ◌&&◌, ℤ, Bool, true, false, nat_eq, List, [], Option, Some, None, map, position, if◌then◌else◌}
 use Rattle.std.specs.Cmp.Lexicographic.{pointwise}
 use Rattle.std.specs.List.{range_with_len}
 use Rattle.std.specs.Int.{from_be_bytes, w32}
-use Rattle.net_wire.specs.declared.address.EthernetAddress.{EthernetAddress}
 use Rattle.net_wire.specs.declared.address.Ipv4Address.{Ipv4Address}
 use Rattle.net_wire.specs.declared.address.Ipv4Cidr.{Ipv4Cidr}
 use Rattle.net_wire.specs.declared.dhcp.DhcpMessageType.{DhcpMessageType}
@@ -12,11 +11,9 @@ use Rattle.net_wire.specs.declared.error.Context.{Context}
 use Rattle.net_wire.specs.DhcpMessage.{Message}
 use Rattle.net_wire.specs.Time.{instant_after}
 use Rattle.net_wire.specs.Unicast.{is_unicast}
-use Rattle.dhcp_client.specs.declared.state.ClientState.{ClientState}
-use Rattle.dhcp_client.specs.declared.state.ClientState.TheVariants.{Discovering, Requesting, Renewing}
 use Rattle.dhcp_client.specs.declared.state.Lease.{Lease}
 use Rattle.dhcp_client.specs.declared.state.ServerInfo.{ServerInfo}
-use Rattle.dhcp_client.specs.Client.{Client, after_reset}
+use Rattle.dhcp_client.specs.Client.{Client}
 use Rattle.dhcp_client.specs.Config.{ClientSettings}
 use Rattle.dhcp_client.specs.Times.{Spans, spans, lease_span}
 
