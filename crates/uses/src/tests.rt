@@ -1,6 +1,8 @@
 //! Each caller once on bytes from outside.
-use crate::{dissection, headers, runs, sums};
-use net_wire::Instant;
+use crate::{dissection, headers, leases, runs, sums};
+use dhcp_client::Socket;
+use net_wire::{Context, EthernetAddress, Instant, Ipv4Address, Ipv4Cidr};
+use wire_base::number::append;
 
 /// The IPv4 header of a datagram from 192.168.0.1 to 192.168.0.199.
 const HEADER: [u8; 20] = [
@@ -57,4 +59,43 @@ fn a_script_begins_with_its_first_event(rt: HostRuntime) {
     assert!(rt; time == Ok(Some(Instant::from_micros(10_000_000))));
     let none = runs::first_time(alloc, Vec::new(alloc));
     assert!(rt; none == Ok(None));
+}
+
+/// An offer, and but for its type an acknowledgement, of 192.168.1.42/24 for 1000 seconds by 192.168.1.1.
+fn reply(message_type: u8) -> [u8; 300] {
+    let mut message = [0; 300];
+    message[0] = 2;
+    message[1] = 1;
+    message[2] = 6;
+    message[7] = 1;
+    append(&mut message, 16, &[192, 168, 1, 42]);
+    append(&mut message, 28, &[2; 6]);
+    append(&mut message, 236, &[0x63, 0x82, 0x53, 0x63, 53, 1]);
+    message[242] = message_type;
+    append(&mut message, 243, &[54, 4, 192, 168, 1, 1]);
+    append(&mut message, 249, &[1, 4, 255, 255, 255, 0]);
+    append(&mut message, 255, &[51, 4, 0, 0, 3, 232, 255]);
+    message
+}
+
+#[test]
+fn a_host_holds_what_is_leased(rt: HostRuntime) {
+    let cx = Context {
+        now: Instant::ZERO,
+        hardware_addr: EthernetAddress([2; 6]),
+        ip_mtu: 1500,
+    };
+    let server = Ipv4Address([192, 168, 1, 1]);
+    let mut socket = Socket::new();
+    let mut held = None;
+    socket.process(&cx, server, &reply(2));
+    socket.process(&cx, server, &reply(5));
+    leases::follow(&mut socket, &mut held);
+    let leased = Ipv4Cidr {
+        address: Ipv4Address([192, 168, 1, 42]),
+        prefix_len: 24,
+    };
+    assert_eq!(rt; held, Some(leased));
+    leases::give_up(&mut socket, &mut held);
+    assert_eq!(rt; (held, socket.poll_at()), (None, Instant::ZERO));
 }
