@@ -1,6 +1,5 @@
 -- What the two dissectors hold of one layout.
-use Rattle.std.proofs.Common.{◌≡◌, ℕ, ◌≤◌, Bool, true, List, length, Option, Some, None, refl, sym, ap, ◌∙◌, arith}
-use Rattle.std.specs.Prelude.{map, option_map}
+use Rattle.std.proofs.Common.{◌≡◌, ℕ, List, length, Option, Some, None, refl, arith}
 use Rattle.ether_link.specs.Layout.{IsLayoutFrom}
 use Rattle.ether_link.specs.declared.layout.Place.{Place}
 use Rattle.ether_link.specs.declared.layout.Stop.{Stop}
@@ -13,19 +12,17 @@ use Rattle.ether_ip.specs.declared.ip.ext_places.ExtensionPlaces.{ExtensionPlace
 use Rattle.ether_ip.specs.declared.transport.TransportSlice.{TransportSlice}
 use Rattle.ether_ip.proofs.PacketLemmas.{packets_orderly}
 use Rattle.ether_lax.specs.Agreement.{Agree, AgreeNets, AgreeOn, AreFree, CarriesSame, FindsPlaces, HoldsChain}
-use Rattle.ether_lax.specs.Found.{Parts, no_parts, parts_of}
+use Rattle.ether_lax.specs.Found.{no_parts, parts_of}
 use Rattle.ether_lax.specs.Headers.{HeaderParts, HoldsHeaders, headers_in, headers_of, net_headers, carried_of, lacks_bytes}
-use Rattle.ether_lax.specs.LinkExts.{LinkExtPart, header_of_ext}
-use Rattle.ether_lax.specs.Nets.{net_in}
-use Rattle.ether_lax.specs.Payloads.{Carried, carried_in}
-use Rattle.ether_lax.specs.Sliced.{SlicedParts, HoldsLayout, sliced_in, sliced_of, net_by, net_of, chain_at}
+use Rattle.ether_lax.specs.Payloads.{Carried}
+use Rattle.ether_lax.specs.Sliced.{SlicedParts, HoldsLayout, sliced_in, sliced_of, net_by, chain_at}
 use Rattle.ether_lax.specs.declared.found.FoundIp.{FoundIp}
 use Rattle.ether_lax.specs.declared.found.IpHeader.{IpHeader}
 use Rattle.ether_lax.specs.declared.found.IpHeader.TheVariants.{V4, V6}
 use Rattle.ether_lax.specs.declared.packet_headers.LaxPacketHeaders.{LaxPacketHeaders}
 use Rattle.ether_lax.specs.declared.sliced_packet.LaxSlicedPacket.{LaxSlicedPacket}
 use Rattle.ether_lax.proofs.AgreementLemmas.{free_all, told_same, carried_same, located}
-use Rattle.ether_lax.proofs.RankLemmas.{rank, IsFrom, are_parts}
+use Rattle.ether_lax.proofs.RankLemmas.{IsFrom, are_parts}
 
 module _ (frame : List ℕ) (held : ExtensionPlaces) where
   abbrev Chains : Option FoundIp → Type 0

@@ -1,12 +1,11 @@
 -- The two dissectors agree where each extension header finds its place free.
-use Rattle.std.proofs.Common.{◌≡◌, ℕ, ◌+◌, ◌-◌, ◌<◌, ◌≤◌, Bool, true, false, List, [], ◌∷◌, length, take, drop, Option, Some, None, refl, sym, ap, ◌∙◌, arith}
-use Rattle.std.specs.Prelude.{◌==◌, ◌≢◌, if◌then◌else◌, slice_range, slice_index, map, option_map}
+use Rattle.std.proofs.Common.{◌≡◌, ℕ, ◌+◌, ◌-◌, ◌<◌, ◌≤◌, Bool, true, false, List, [], ◌∷◌, length, drop, Option, Some, None, refl, sym, ap, ◌∙◌, arith}
+use Rattle.std.specs.Prelude.{◌==◌, if◌then◌else◌, slice_range, slice_index}
 use Rattle.std.proofs.lemmas.Bool.Decides.{nat_tests}
 use Rattle.std.proofs.lemmas.List.{length-take, length-drop}
-use Rattle.ether_link.specs.Form.{header_len, refusal}
-use Rattle.ether_link.specs.Layout.{header, place_of, IsLayoutFrom, AreNested}
-use Rattle.ether_link.specs.Places.{header_at, layer_of_kind}
-use Rattle.ether_link.specs.declared.err.layers.Layer.{Layer}
+use Rattle.ether_link.specs.Form.{header_len}
+use Rattle.ether_link.specs.Layout.{header, IsLayoutFrom, AreNested}
+use Rattle.ether_link.specs.Places.{header_at}
 use Rattle.ether_link.specs.declared.len_source.LenSource.{LenSource}
 use Rattle.ether_link.specs.declared.layout.PartKind.{PartKind}
 use Rattle.ether_link.specs.declared.layout.PartKind.TheVariants as kind
@@ -17,8 +16,8 @@ use Rattle.ether_link.proofs.FormLemmas.{has_header}
 use Rattle.ether_link.proofs.RangeLemmas.{range_range, header_is}
 use Rattle.ether_ip.specs.ExtensionGrammar.{first_extension_kind}
 use Rattle.ether_ip.specs.Extensions.{bytes_of_extension, extension_slice, fragmented_by}
-use Rattle.ether_ip.specs.Held.{no_extensions, is_extension, is_taken, with_extension, with_header, held_by, free_places, free_stop, extensions_of}
-use Rattle.ether_ip.specs.IpHeaders.{is_ipv4, number_in, extension_in, is_fragment_in}
+use Rattle.ether_ip.specs.Held.{no_extensions, is_extension, is_taken, with_header, held_by, free_places, free_stop, extensions_of}
+use Rattle.ether_ip.specs.IpHeaders.{is_ipv4}
 use Rattle.ether_ip.specs.PacketGrammar.{packet_grammar, part_turn}
 use Rattle.ether_ip.specs.Transport.{payload_of_transport}
 use Rattle.ether_ip.specs.declared.err.packet.SliceError.{SliceError}
@@ -27,20 +26,19 @@ use Rattle.ether_ip.specs.declared.ip.ext_places.ExtensionPlaces.{ExtensionPlace
 use Rattle.ether_ip.specs.declared.ip.exts.Ipv6ExtensionSlice.{Ipv6ExtensionSlice}
 use Rattle.ether_ip.specs.declared.transport.TransportSlice.{TransportSlice}
 use Rattle.ether_ip.specs.declared.transport.TransportSlice.TheVariants.{Udp, Tcp, Icmpv4, Icmpv6}
-use Rattle.ether_lax.specs.Agreement.{AreFree, HoldsChain, AgreeStops, sourceless, chain_turn}
-use Rattle.ether_lax.specs.Found.{Parts, with_part, extended, parts_behind}
+use Rattle.ether_lax.specs.Agreement.{AreFree, HoldsChain, AgreeStops, sourceless}
+use Rattle.ether_lax.specs.Found.{Parts, with_part, parts_behind}
 use Rattle.ether_lax.specs.Parts.{part_at, part_in, whole_at}
 use Rattle.ether_lax.specs.Payloads.{bytes_of_carried, carried_in_transport}
-use Rattle.ether_lax.specs.Sliced.{chain_at, chain_by}
+use Rattle.ether_lax.specs.Sliced.{chain_at}
 use Rattle.ether_lax.specs.Stops.{placed, told}
 use Rattle.ether_lax.specs.declared.found.FoundIp.{FoundIp}
 use Rattle.ether_lax.specs.declared.found.IpHeader.{IpHeader}
 use Rattle.ether_lax.specs.declared.found.IpHeader.TheVariants.{V4, V6}
-use Rattle.ether_lax.specs.declared.step.Part.{Part}
 use Rattle.ether_lax.specs.declared.step.Part.TheVariants as part
 use Rattle.ether_lax.proofs.ChainLemmas.{zeroed, part_zero, chain_places, chain_end, chain_within, chain_layout}
 use Rattle.ether_lax.proofs.FoundLemmas.{held_with}
-use Rattle.ether_lax.proofs.RankLemmas.{rank, behind, IsPart, AreParts}
+use Rattle.ether_lax.proofs.RankLemmas.{rank, behind, AreParts}
 use Rattle.ether_lax.proofs.CutPacketLemmas.{none_behind}
 
 -- nothing is left out where all places are free

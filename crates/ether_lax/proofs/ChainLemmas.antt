@@ -4,7 +4,6 @@ use Rattle.std.specs.Prelude.{if◌then◌else◌, slice_range, slice_index}
 use Rattle.std.proofs.lemmas.List.{length-take, take-take}
 use Rattle.ether_link.specs.Form.{header_len, refusal}
 use Rattle.ether_link.specs.Layout.{header, place_of, IsLayoutFrom, AreNested}
-use Rattle.ether_link.specs.Places.{header_at}
 use Rattle.ether_link.specs.declared.layout.PartKind.{PartKind}
 use Rattle.ether_link.specs.declared.layout.PartKind.TheVariants as kind
 use Rattle.ether_link.specs.declared.layout.Place.{Place}
@@ -13,12 +12,10 @@ use Rattle.ether_link.specs.declared.layout.Turn.{Turn}
 use Rattle.ether_link.proofs.FormLemmas.{has_header, same_part, kept_part}
 use Rattle.ether_link.proofs.RangeLemmas.{range_range}
 use Rattle.ether_ip.specs.ExtensionGrammar.{extension_kind, fragmented_behind, turn_to}
-use Rattle.ether_ip.specs.Held.{is_extension, is_taken, with_header, held_by}
+use Rattle.ether_ip.specs.Held.{is_extension}
 use Rattle.ether_ip.specs.PacketGrammar.{packet_grammar, part_turn, transport_kind, is_icmp}
 use Rattle.ether_ip.specs.declared.err.packet.SliceError.{SliceError}
-use Rattle.ether_ip.specs.declared.ip.ext_places.ExtensionPlaces.{ExtensionPlaces}
 use Rattle.ether_ip.proofs.PacketLemmas.{packets_orderly, packets_cuttable}
-use Rattle.ether_lax.specs.Agreement.{AreFree}
 
 -- the same turn, behind no link extensions
 abbrev pub zeroed : Option Turn → Option Turn

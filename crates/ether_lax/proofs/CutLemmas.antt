@@ -1,9 +1,8 @@
 -- The first bytes of a frame leave a front of its packet.
 use Rattle.std.proofs.Common.{◌≡◌, ℕ, ◌+◌, ◌-◌, ◌<◌, ◌≤◌, min, Bool, true, false, List, [], ◌∷◌, ◌++◌, length, take, drop, Option, Some, None, refl, sym, ap, ◌∙◌, length-append, arith}
-use Rattle.std.specs.Prelude.{nat_lt, is_some, if◌then◌else◌, slice_range, slice_index}
+use Rattle.std.specs.Prelude.{nat_lt, is_some, if◌then◌else◌, slice_range}
 use Rattle.std.proofs.lemmas.Bool.Decides.{nat_tests}
-use Rattle.std.proofs.lemmas.List.{length-take, length-take-le, take-take, take_all}
-use Rattle.ether_link.specs.Cut.{cut_places, proper}
+use Rattle.std.proofs.lemmas.List.{length-take-le, take-take, take_all}
 use Rattle.ether_link.specs.Form.{Form, header_len}
 use Rattle.ether_link.specs.Macsec.{macsec_next_ether_type}
 use Rattle.ether_link.specs.Places.{header_at}
@@ -14,9 +13,9 @@ use Rattle.ether_link.specs.declared.len_source.LenSource.{LenSource}
 use Rattle.ether_link.specs.declared.numbers.EtherType.{EtherType}
 use Rattle.ether_link.proofs.RangeLemmas.{range_cut}
 use Rattle.ether_ip.specs.Extensions.{extension_slice}
-use Rattle.ether_ip.specs.Held.{with_extension, with_header}
+use Rattle.ether_ip.specs.Held.{with_extension}
 use Rattle.ether_ip.specs.IpHeaders.{is_ipv4}
-use Rattle.ether_ip.specs.PacketGrammar.{packet_grammar, is_icmp}
+use Rattle.ether_ip.specs.PacketGrammar.{packet_grammar}
 use Rattle.ether_ip.specs.Tcp.{tcp_slice_form}
 use Rattle.ether_ip.specs.declared.ip.ext_places.ExtensionPlaces.{ExtensionPlaces}
 use Rattle.ether_ip.specs.declared.ip.exts.Ipv6ExtensionSlice.{Ipv6ExtensionSlice}
@@ -24,14 +23,14 @@ use Rattle.ether_ip.specs.declared.ip.exts.Ipv6ExtensionSlice.TheVariants as ext
 use Rattle.ether_ip.specs.declared.transport.TransportSlice.{TransportSlice}
 use Rattle.ether_ip.specs.declared.transport.TransportSlice.TheVariants.{Udp, Tcp, Icmpv4, Icmpv6}
 use Rattle.ether_lax.specs.CutPackets.{IsFront, IsKept, IsCutExt, AreCutExts, IsCutTransport}
-use Rattle.ether_lax.specs.Found.{Parts, with_part, with_ext, ip_found, extended, parts_behind}
+use Rattle.ether_lax.specs.Found.{Parts, with_part, with_ext, extended}
 use Rattle.ether_lax.specs.LinkExts.{LinkExtPart, TagPart, macsec_part, secured}
-use Rattle.ether_lax.specs.Parts.{part_at, part_in, ip_part, whole_at, window_at, source_at, is_incomplete}
+use Rattle.ether_lax.specs.Parts.{part_at, part_in, whole_at, window_at, source_at, is_incomplete}
 use Rattle.ether_lax.specs.declared.found.FoundIp.{FoundIp}
 use Rattle.ether_lax.specs.declared.found.IpHeader.{IpHeader}
 use Rattle.ether_lax.specs.declared.found.IpHeader.TheVariants.{V4, V6}
 use Rattle.ether_lax.specs.declared.step.Part.TheVariants as part
-use Rattle.ether_lax.proofs.RankLemmas.{rank, behind, IsPart, AreParts}
+use Rattle.ether_lax.proofs.RankLemmas.{rank, behind}
 
 -- fronts of bytes
 front_by : (k : ℕ) (bytes : List ℕ) (b : Bool) → nat_lt (length bytes) k ≡ b → IsFront (take k bytes) bytes

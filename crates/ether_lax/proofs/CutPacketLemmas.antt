@@ -1,8 +1,8 @@
 -- The packet of the first bytes of a frame is a front of that of all bytes.
-use Rattle.std.proofs.Common.{◌≡◌, ℕ, ◌+◌, ◌-◌, ◌<◌, ◌≤◌, min, Bool, true, false, List, [], ◌∷◌, length, take, drop, Option, Some, None, refl, sym, ap, ◌∙◌, arith}
+use Rattle.std.proofs.Common.{◌≡◌, ℕ, ◌-◌, ◌<◌, ◌≤◌, min, Bool, true, false, List, [], ◌∷◌, length, take, drop, Option, Some, None, refl, ◌∙◌, arith}
 use Rattle.std.specs.Prelude.{nat_lt, if◌then◌else◌, slice_range}
 use Rattle.std.proofs.lemmas.Bool.Decides.{nat_tests}
-use Rattle.std.proofs.lemmas.List.{length-take, take-take, take_all}
+use Rattle.std.proofs.lemmas.List.{length-take, take_all}
 use Rattle.ether_link.specs.Cut.{cut_places, proper}
 use Rattle.ether_link.specs.Places.{header_at}
 use Rattle.ether_link.specs.declared.layout.PartKind.{PartKind}
@@ -14,14 +14,13 @@ use Rattle.ether_ip.specs.IpHeaders.{is_ipv4}
 use Rattle.ether_ip.specs.PacketGrammar.{is_icmp}
 use Rattle.ether_ip.specs.declared.ip.exts.Ipv6ExtensionSlice.{Ipv6ExtensionSlice}
 use Rattle.ether_ip.specs.declared.transport.TransportSlice.{TransportSlice}
-use Rattle.ether_lax.specs.CutPackets.{IsCutTransport}
 use Rattle.ether_lax.specs.Found.{Parts, with_part, with_ext, extended, parts_behind}
 use Rattle.ether_lax.specs.LinkExts.{LinkExtPart}
 use Rattle.ether_lax.specs.Parts.{part_at, part_in, whole_at}
 use Rattle.ether_lax.specs.declared.found.FoundIp.{FoundIp}
 use Rattle.ether_lax.specs.declared.step.Part.TheVariants as part
-use Rattle.ether_lax.proofs.RankLemmas.{rank, behind, IsPart, AreParts}
-use Rattle.ether_lax.proofs.CutLemmas.{Fits, FitsIp, FitsVersion, LiesBy, IsCut, IsCutIp, IsCutFound, IsCutArp, IsSame, fits_step, exts_more, no_arp, no_transport, no_ip, none_yet, kept_version, room_for, same_in}
+use Rattle.ether_lax.proofs.RankLemmas.{rank, behind, AreParts}
+use Rattle.ether_lax.proofs.CutLemmas.{Fits, FitsIp, LiesBy, IsCut, IsCutIp, IsSame, fits_step, exts_more, no_arp, no_transport, no_ip, none_yet, kept_version, room_for, same_in}
 
 -- one part more in all bytes alone
 more_last : (n : ℕ) (c w : Parts) (y : Option Place) → IsCut n c w → IsCut n c (record w { last = y })

@@ -1,21 +1,20 @@
 -- What two packets hold, of which one is that of the first bytes of the other's frame.
-use Rattle.std.proofs.Common.{◌≡◌, ℕ, ◌+◌, ◌-◌, ◌<◌, ◌≤◌, min, Bool, true, false, List, length, take, drop, Option, Some, None, refl, sym, ap, ◌∙◌, arith}
+use Rattle.std.proofs.Common.{◌≡◌, ℕ, ◌-◌, ◌<◌, ◌≤◌, min, Bool, true, false, List, length, take, drop, Option, Some, None, refl, sym, ap, ◌∙◌, arith}
 use Rattle.std.specs.Prelude.{nat_lt, slice_range}
 use Rattle.std.proofs.lemmas.Bool.Decides.{nat_tests}
 use Rattle.std.proofs.lemmas.List.{length-take, take-take}
-use Rattle.ether_link.specs.Cut.{cut_places, proper}
 use Rattle.ether_link.specs.Layout.{IsLayoutFrom}
 use Rattle.ether_link.specs.declared.layout.PartKind.TheVariants as kind
 use Rattle.ether_link.specs.declared.layout.Place.{Place}
 use Rattle.ether_link.specs.declared.layout.Stop.{Stop}
 use Rattle.ether_link.proofs.LayoutLemmas.{nested}
 use Rattle.ether_link.proofs.RangeLemmas.{range_cut}
-use Rattle.ether_ip.specs.PacketGrammar.{packet_grammar, is_icmp}
+use Rattle.ether_ip.specs.PacketGrammar.{packet_grammar}
 use Rattle.ether_ip.specs.declared.err.packet.SliceError.{SliceError}
 use Rattle.ether_ip.proofs.CutPacketLemmas as ip
 use Rattle.ether_ip.proofs.PacketLemmas.{packets_orderly}
 use Rattle.ether_lax.specs.CutPackets.{IsFront, IsCutPayload, IsCutNet, IsCutPacket, last_header}
-use Rattle.ether_lax.specs.Found.{Parts, no_parts, parts_of, parts_behind}
+use Rattle.ether_lax.specs.Found.{no_parts, parts_of}
 use Rattle.ether_lax.specs.Parts.{window_at}
 use Rattle.ether_lax.specs.Sliced.{SlicedParts, HoldsLayout, sliced_in, sliced_of, net_by, ip_by}
 use Rattle.ether_lax.specs.Steps.{begins_with}

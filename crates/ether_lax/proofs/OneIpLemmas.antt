@@ -1,5 +1,5 @@
 -- Some bytes are one IP packet.
-use Rattle.std.proofs.Common.{◌≡◌, ℕ, List, length, Option, Some, refl, sym, ap, ◌∙◌}
+use Rattle.std.proofs.Common.{◌≡◌, ℕ, List, length, Option, Some, sym, ◌∙◌}
 use Rattle.ether_link.specs.declared.err.layers.Layer.{Layer}
 use Rattle.ether_link.specs.declared.layout.PartKind.TheVariants.{Ip}
 use Rattle.ether_link.proofs.LayoutLemmas.{one}

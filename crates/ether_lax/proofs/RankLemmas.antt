@@ -1,9 +1,9 @@
 -- The order of the parts of a packet: the link, the network layer, its extension headers, the transport layer.
-use Rattle.std.proofs.Common.{◌≡◌, ℕ, ◌+◌, ◌<◌, ◌≤◌, Bool, true, false, List, [], ◌∷◌, length, take, Option, Some, None, refl, sym, ap, ◌∙◌, arith}
+use Rattle.std.proofs.Common.{◌≡◌, ℕ, ◌+◌, ◌<◌, ◌≤◌, Bool, true, false, List, [], ◌∷◌, Option, Some, None, refl, ap, arith}
 use Rattle.std.specs.Prelude.{◌==◌, nat_lt, if◌then◌else◌, slice_range, slice_index, option_and_then}
 use Rattle.wire_base.specs.Bytes.{be16_at}
-use Rattle.ether_link.specs.Form.{or_else, header_len, refusal}
-use Rattle.ether_link.specs.Layout.{header, place_of, IsLayoutFrom, AreNested}
+use Rattle.ether_link.specs.Form.{or_else, header_len}
+use Rattle.ether_link.specs.Layout.{header, IsLayoutFrom, AreNested}
 use Rattle.ether_link.specs.LinkGrammar.{is_vlan, is_ip, by_ether_type, by_protocol_type, link_turn}
 use Rattle.ether_link.specs.LinuxSll.{protocol_type_of}
 use Rattle.ether_link.specs.Macsec.{is_unmodified}

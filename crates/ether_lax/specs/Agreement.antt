@@ -1,5 +1,5 @@
 -- When a packet in slices and the headers of a packet as structs agree.
-use Rattle.std.specs.Prelude.{◌≡◌, ℕ, Bool, false, List, [], ◌∷◌, length, map, Option, Some, None, option_map}
+use Rattle.std.specs.Prelude.{◌≡◌, ℕ, false, List, [], ◌∷◌, length, map, Option, Some, None, option_map}
 use Rattle.ether_link.specs.Arp.{arp_packet}
 use Rattle.ether_link.specs.Layout.{IsLayoutFrom}
 use Rattle.ether_link.specs.Places.{header_at}

@@ -10,7 +10,7 @@ use Rattle.ether_ip.specs.Tcp.{tcp_slice_form}
 use Rattle.ether_ip.specs.declared.err.packet.SliceError.{SliceError}
 use Rattle.ether_ip.specs.declared.transport.TransportSlice.{TransportSlice}
 use Rattle.ether_ip.specs.declared.transport.TransportSlice.TheVariants.{Udp, Tcp, Icmpv4, Icmpv6}
-use Rattle.ether_lax.specs.Found.{Parts, parts_of}
+use Rattle.ether_lax.specs.Found.{parts_of}
 use Rattle.ether_lax.specs.LinkExts.{LinkExtPart, TagPart, SecuredPart, ModifiedPart}
 use Rattle.ether_lax.specs.Nets.{NetPart, Ipv4Part, Ipv6Part, ArpPart}
 use Rattle.ether_lax.specs.Parts.{window_at}
