@@ -10,8 +10,6 @@ mod slice;
 mod slot_key;
 mod slot_links;
 mod slot_map;
-#[cfg(test)]
-mod tests;
 
 pub use error::{InsertError, NoMemory};
 pub use map::{

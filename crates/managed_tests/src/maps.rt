@@ -1,6 +1,6 @@
 //! Cases of the original map over borrowed places of `a` = 1 to `d` = 4, and the same over a tree.
-use super::callers::{count_after_reset, set_count, set_counts};
-use crate::{InsertError, ManagedMap};
+use crate::callers::{count_after_reset, set_count, set_counts};
+use managed::{InsertError, ManagedMap};
 use std::collections::BTreeMap;
 use std::test::Fail;
 

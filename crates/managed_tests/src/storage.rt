@@ -1,5 +1,5 @@
 //! What is owned, and what is borrowed.
-use crate::{Managed, ManagedSlice};
+use managed::{Managed, ManagedSlice};
 use std::test::Fail;
 
 #[test]

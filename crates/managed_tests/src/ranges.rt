@@ -1,5 +1,5 @@
 //! Cases of the original ranges, over borrowed places and over a tree.
-use crate::{ManagedMap, Range};
+use managed::{ManagedMap, Range};
 use std::alloc::{AllocError, Global};
 use std::collections::BTreeMap;
 use std::ops::Bound;
@@ -110,12 +110,33 @@ fn gives(
     Ok(front.as_str() == want && back.as_str() == want)
 }
 
+// Whether each range of a map of `a` to `d` gives its keys.
+fn gives_all(alloc: Global, map: &ManagedMap<u8, u32>) -> Result<bool, AllocError> {
+    for (from, to, want) in HALF_OPEN {
+        if !gives(
+            alloc,
+            map,
+            Bound::Included(&from),
+            Bound::Excluded(&to),
+            want,
+        )? {
+            return Ok(false);
+        }
+    }
+    for (from, to, want) in BOUNDED {
+        if !gives(alloc, map, by_reference(&from), by_reference(&to), want)? {
+            return Ok(false);
+        }
+    }
+    Ok(true)
+}
+
 fn key_of(pair: Option<(&u8, &u32)>) -> Option<u8> {
     pair.map(|(key, _)| *key)
 }
 
 #[test]
-fn a_range_gives_the_keys_inside_its_bounds(rt: HostRuntime) -> Result<(), Fail> {
+fn ranges_give_the_keys_inside_their_bounds(rt: HostRuntime) -> Result<(), Fail> {
     let mut places = [
         Some((b'a', 1u32)),
         Some((b'b', 2)),
@@ -123,61 +144,12 @@ fn a_range_gives_the_keys_inside_its_bounds(rt: HostRuntime) -> Result<(), Fail>
         Some((b'd', 4)),
         None,
     ];
-    let map = ManagedMap::Borrowed(&mut places);
-    for (from, to, want) in HALF_OPEN {
-        assert!(rt;
-            gives(
-                rt.alloc(),
-                &map,
-                Bound::Included(&from),
-                Bound::Excluded(&to),
-                want
-            )?
-        );
-    }
-    for (from, to, want) in BOUNDED {
-        assert!(rt;
-            gives(
-                rt.alloc(),
-                &map,
-                by_reference(&from),
-                by_reference(&to),
-                want
-            )?
-        );
-    }
-    Ok(())
-}
-
-#[test]
-fn a_range_of_a_tree_gives_the_same(rt: HostRuntime) -> Result<(), Fail> {
+    assert!(rt; gives_all(rt.alloc(), &ManagedMap::Borrowed(&mut places))?);
     let mut tree = BTreeMap::new(rt.alloc());
     for (key, value) in [(b'd', 4), (b'b', 2), (b'c', 3), (b'a', 1)] {
         tree.insert(key, value)?;
     }
-    let map = ManagedMap::Owned(tree);
-    for (from, to, want) in HALF_OPEN {
-        assert!(rt;
-            gives(
-                rt.alloc(),
-                &map,
-                Bound::Included(&from),
-                Bound::Excluded(&to),
-                want
-            )?
-        );
-    }
-    for (from, to, want) in BOUNDED {
-        assert!(rt;
-            gives(
-                rt.alloc(),
-                &map,
-                by_reference(&from),
-                by_reference(&to),
-                want
-            )?
-        );
-    }
+    assert!(rt; gives_all(rt.alloc(), &ManagedMap::Owned(tree))?);
     Ok(())
 }
 

@@ -1,6 +1,6 @@
 //! Cases of the original table of slots.
-use super::callers::set_element;
-use crate::{ManagedSlice, SlotIndex, SlotKey, SlotMap};
+use crate::callers::set_element;
+use managed::{ManagedSlice, SlotIndex, SlotKey, SlotMap};
 use std::test::Fail;
 
 #[test]
@@ -73,11 +73,11 @@ fn freed_places_come_back_last_first(rt: HostRuntime) -> Result<(), Fail> {
             assert_eq!(rt; map.get(keys[*place % 3]).copied(), Some(*place as u32));
         }
     }
-    for place in [0usize, 2, 1] {
-        let key = map.insert(place as u32).ok_or("full")?;
-        assert_eq!(rt; key.place, place);
-        assert_eq!(rt; map.get(key).copied(), Some(place as u32));
+    for place in [0u32, 2, 1] {
+        assert!(rt; map.insert(place + 10).is_some());
     }
+    drop(map);
+    assert_eq!(rt; elements, [10, 11, 12]);
     Ok(())
 }
 
