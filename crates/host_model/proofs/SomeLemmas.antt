@@ -1,11 +1,11 @@
 -- Bytes are in one of the classes: events are read off as long as there are some.
-use Rattle.std.proofs.Common.{◌≡◌, ℕ, zero, suc, ◌^◌, ◌<◌, ◌≤◌, ◌⊎◌, inl, inr, ⊎_elim, Bool, true, false, nat_eq, List, [], ◌∷◌, ◌++◌, length, get_or, take, drop, ap, sym, subst, ◌∙◌, refl, arith, append_assoc, take-append-drop, append-nil, leb}
-use Rattle.std.specs.Int.{from_be_bytes, to_be_bytes, w64}
+use Rattle.std.proofs.Common.{◌≡◌, ℕ, zero, suc, ◌^◌, ◌<◌, ◌≤◌, ◌⊎◌, inl, inr, ⊎_elim, Bool, true, false, nat_eq, List, [], ◌∷◌, ◌++◌, length, get_or, take, drop, ap, sym, subst, ◌∙◌, refl, arith, append_assoc, take-append-drop, append-nil, length-append, length-take-le, leb}
+use Rattle.std.specs.Int.{from_be_bytes, to_be_bytes, w16, w64}
 use Rattle.std.specs.Cmp.Lexicographic.{pointwise}
 use Rattle.std.proofs.lemmas.Slice.Eq.{slice_eq-Decides}
 use Rattle.std.proofs.lemmas.Bool.Decides.{Decides-eqb, leb_tells, not_from_Decides}
-use Rattle.std.proofs.lemmas.Nat.{from_be_bytes-to_be_bytes_8}
-use Rattle.host_model.specs.Script.{Arrival, Tick, Reset, Event, kind_byte, head_bytes, SpellsArrival, IsArrival, Spells, SpellsAll, IsNext, AreInOrder, last_time, time_limit, BeginsNoEvent}
+use Rattle.std.proofs.lemmas.Nat.{from_be_bytes-to_be_bytes_2, from_be_bytes-to_be_bytes_8}
+use Rattle.host_model.specs.Script.{Arrival, Tick, Reset, Frame, Event, kind_byte, head_with, head_bytes, SpellsArrival, IsArrival, Spells, SpellsAll, IsNext, AreInOrder, last_time, time_limit, BeginsNoEvent}
 use Rattle.host_model.specs.Classes.{IsValidScript, BeginsWith, IsOverLimit, IsBrokenAt}
 use Rattle.host_model.proofs.PartLemmas.{head_of}
 
@@ -25,10 +25,6 @@ time_of bytes = from_be_bytes w64 (take 8 (drop 1 bytes))
 -- the byte where a kind stands
 abbrev kind_of : List ℕ → ℕ
 kind_of bytes = get_or bytes 0 0
-
--- the head of a kind and a time
-abbrev head_with : ℕ → ℕ → List ℕ
-head_with kind at = kind ∷ [] ++ to_be_bytes w64 at
 
 -- the head of an event that begins bytes, by the kind and the time that stand there
 record HeadThere (arrival : Arrival) (at : ℕ) (bytes : List ℕ) : Type 0 where
@@ -96,10 +92,95 @@ found_bare last bytes arrival head kind may bare = record {
   whole = sym (take-append-drop 9 bytes);
 }
 
+-- what stands behind a head, and behind a length there; the number where a length stands
+abbrev behind : List ℕ → List ℕ
+behind bytes = drop 9 bytes
+
+abbrev behind_len : List ℕ → List ℕ
+behind_len bytes = drop 2 (behind bytes)
+
+abbrev len_of : List ℕ → ℕ
+len_of bytes = from_be_bytes w16 (take 2 (behind bytes))
+
+-- bytes that begin with the event of a frame: its length, and enough bytes behind that
+record FrameThere (bytes : List ℕ) : Type 0 where
+  number : take 2 (behind bytes) ≡ to_be_bytes w16 (len_of bytes)
+  fits : len_of bytes < 2 ^ 16
+  enough : len_of bytes ≤ length (behind_len bytes)
+
+frame_there : (frame spelled more bytes : List ℕ) (at : ℕ) → length frame < 2 ^ 16 → SpellsArrival (Frame frame) spelled
+    → bytes ≡ head_with 1 at ++ (spelled ++ more) → FrameThere bytes
+frame_there frame spelled more bytes at fits spells is =
+    let stands : behind bytes ≡ (to_be_bytes w16 (length frame) ++ frame) ++ more = ap (drop 9) is ∙ ap (λ l. l ++ more) spells in
+    let len : length frame ≡ len_of bytes =
+    sym (ap (λ l. from_be_bytes w16 (take 2 l)) stands ∙ from_be_bytes-to_be_bytes_2 (length frame) fits) in
+    let counted : length (behind_len bytes) ≡ length (frame ++ more) = ap (λ l. length (drop 2 l)) stands in
+    record {
+      number = ap (take 2) stands ∙ ap (to_be_bytes w16) len;
+      fits = omega (arith, len, fits);
+      enough = omega (arith, len, counted, length-append frame more);
+    }
+
+frame_by : (arrival : Arrival) (spelled more bytes : List ℕ) (at : ℕ) → kind_of bytes ≡ 1 → IsArrival arrival → SpellsArrival arrival spelled
+    → bytes ≡ head_bytes arrival at ++ (spelled ++ more) → FrameThere bytes
+frame_by Tick spelled more bytes at kind may spells is =
+    let same : kind_of bytes ≡ 2 = ap kind_of is in absurd (omega (arith, kind, same))
+frame_by Reset spelled more bytes at kind may spells is =
+    let same : kind_of bytes ≡ 4 = ap kind_of is in absurd (omega (arith, kind, same))
+frame_by (Frame frame) spelled more bytes at kind may spells is = frame_there frame spelled more bytes at may spells is
+
+no_frame : (last : ℕ) (bytes : List ℕ) → kind_of bytes ≡ 1 → (FrameThere bytes → ⊥) → BeginsNoEvent last bytes
+no_frame last bytes kind differs = λ event front rest next spelled whole.
+    differs (frame_by event.arrival spelled.rest rest bytes event.at kind next.arrival spelled.brings (head_of event front rest bytes spelled whole))
+
+-- the event of a frame
+found_frame : (last : ℕ) (bytes : List ℕ) → Headed last bytes → kind_of bytes ≡ 1 → FrameThere bytes → Found last bytes
+found_frame last bytes head kind there =
+    let len = len_of bytes in
+    let frame = take len (behind_len bytes) in
+    let rest = take 2 (behind bytes) ++ frame in
+    let is_long : length frame ≡ len = length-take-le len (behind_len bytes) there.enough in
+    record {
+      event = record { at = time_of bytes; arrival = Frame frame };
+      front = take 9 bytes ++ rest;
+      rest = drop len (behind_len bytes);
+      next = record { not_before = head.not_before; in_range = head.in_range; arrival = omega (arith, is_long, there.fits) };
+      spelled = record {
+        rest = rest;
+        brings = ap (λ l. l ++ frame) (there.number ∙ ap (to_be_bytes w16) (sym is_long));
+        whole = ap (λ l. l ++ rest) (head.whole ∙ ap (λ k. head_with k (time_of bytes)) kind);
+      };
+      whole = sym (append_assoc (take 9 bytes) rest (drop len (behind_len bytes))
+          ∙ ap (λ l. take 9 bytes ++ l) (append_assoc (take 2 (behind bytes)) frame (drop len (behind_len bytes))
+          ∙ ap (λ l. take 2 (behind bytes) ++ l) (take-append-drop len (behind_len bytes)) ∙ take-append-drop 2 (behind bytes))
+          ∙ take-append-drop 9 bytes);
+    }
+
+frame_or_not : (bytes : List ℕ) → FrameThere bytes ⊎ (FrameThere bytes → ⊥)
+frame_or_not bytes =
+    let len = len_of bytes in
+    let test = pointwise nat_eq (take 2 (behind bytes)) (to_be_bytes w16 len) in
+    let decides = slice_eq-Decides Decides-eqb (take 2 (behind bytes)) (to_be_bytes w16 len) test refl in
+    let P : Type 0 = FrameThere bytes ⊎ (FrameThere bytes → ⊥) in
+    by_test {P = P} test
+    (λ same.
+    ⊎_elim
+    (λ (enough : (leb len (length (behind_len bytes)) ≡ true) × (len ≤ length (behind_len bytes))).
+    ⊎_elim
+    (λ (long : (leb (2 ^ 16) len ≡ true) × (2 ^ 16 ≤ len)). inr (λ (there : FrameThere bytes). omega (arith, there.fits, long.1)))
+    (λ (fits : (leb (2 ^ 16) len ≡ false) × (len < 2 ^ 16)).
+    inl (record { number = decides.0 same; fits = fits.1; enough = enough.1 }))
+    (leb_tells (2 ^ 16) len))
+    (λ (short : (leb len (length (behind_len bytes)) ≡ false) × (length (behind_len bytes) < len)).
+    inr (λ (there : FrameThere bytes). omega (arith, there.enough, short.1)))
+    (leb_tells len (length (behind_len bytes))))
+    (λ differs. inr (λ (there : FrameThere bytes). not_from_Decides test decides differs there.number))
+
 -- a byte that names no kind
-is_unknown : (kind : ℕ) → (kind ≡ 2 → ⊥) → (kind ≡ 4 → ⊥) → (arrival : Arrival) → kind_byte arrival ≡ kind → ⊥
-is_unknown kind no_tick no_reset Tick is = no_tick (sym is)
-is_unknown kind no_tick no_reset Reset is = no_reset (sym is)
+is_unknown : (kind : ℕ) → (kind ≡ 1 → ⊥) → (kind ≡ 2 → ⊥) → (kind ≡ 4 → ⊥) → (arrival : Arrival) → kind_byte arrival ≡ kind → ⊥
+is_unknown kind no_frame no_tick no_reset Tick is = no_tick (sym is)
+is_unknown kind no_frame no_tick no_reset Reset is = no_reset (sym is)
+is_unknown kind no_frame no_tick no_reset (Frame frame) is = no_frame (sym is)
 
 -- a number is another one, or not
 same_or_not : (a b : ℕ) → (a ≡ b) ⊎ (a ≡ b → ⊥)
@@ -107,13 +188,21 @@ same_or_not a b = by_test (nat_eq a b) (λ same. inl ((Decides-eqb a b).0 same))
 
 found_headed : (last : ℕ) (bytes : List ℕ) → Headed last bytes → Found last bytes ⊎ BeginsNoEvent last bytes
 found_headed last bytes head =
+    ⊎_elim
+    (λ (frame : kind_of bytes ≡ 1).
+    ⊎_elim
+    (λ (there : FrameThere bytes). inl (found_frame last bytes head frame there))
+    (λ (not_there : FrameThere bytes → ⊥). inr (no_frame last bytes frame not_there))
+    (frame_or_not bytes))
+    (λ (no_frame : kind_of bytes ≡ 1 → ⊥).
     ⊎_elim (λ (tick : kind_of bytes ≡ 2). inl (found_bare last bytes Tick head tick tt refl))
     (λ (no_tick : kind_of bytes ≡ 2 → ⊥).
     ⊎_elim (λ (reset : kind_of bytes ≡ 4). inl (found_bare last bytes Reset head reset tt refl))
     (λ (no_reset : kind_of bytes ≡ 4 → ⊥). inr (λ event front rest next spelled whole.
-    is_unknown (kind_of bytes) no_tick no_reset event.arrival (head_in event front rest bytes next.in_range spelled whole).kind))
+    is_unknown (kind_of bytes) no_frame no_tick no_reset event.arrival (head_in event front rest bytes next.in_range spelled whole).kind))
     (same_or_not (kind_of bytes) 4))
-    (same_or_not (kind_of bytes) 2)
+    (same_or_not (kind_of bytes) 2))
+    (same_or_not (kind_of bytes) 1)
 
 pub found_or_not : (last : ℕ) (bytes : List ℕ) → Found last bytes ⊎ BeginsNoEvent last bytes
 found_or_not last bytes =

@@ -1,7 +1,7 @@
 -- The anchor: the event that the DHCP client goes by (RFC 2131, section 4.4 and figure 5).
 use Rattle.std.specs.Prelude.{ℕ, Bool, false, List, [], ◌∷◌, length, if◌then◌else◌}
 use Rattle.dhcp_client.specs.declared.retry.RetryConfig.{RetryConfig}
-use Rattle.host_model.specs.Script.{Arrival, Tick, Reset, Event}
+use Rattle.host_model.specs.Script.{Arrival, Tick, Reset, Frame, Event}
 use Rattle.host_model.specs.Settings.{Settings}
 use Rattle.host_model.specs.History.{Entry, times_since}
 use Rattle.host_model.specs.Due.{loss_due}
@@ -22,9 +22,11 @@ abbrev pub is_over : RetryConfig → List ℕ → ℕ → Anchor → Bool
 is_over retry sent at (Loss place) = false
 
 -- What an arrival at a place makes of the anchor: a tick leaves it, and from a reset on the client has no lease.
+-- So far a frame leaves it, since no client hears one.
 abbrev pub anchor_after_arrival : ℕ → Arrival → Anchor → Anchor
 anchor_after_arrival here Tick anchor = anchor
 anchor_after_arrival here Reset anchor = Loss here
+anchor_after_arrival here (Frame bytes) anchor = anchor
 
 -- what the time of an event makes of the anchor
 abbrev pub anchor_after_time : Settings → List Entry → ℕ → Anchor → Anchor

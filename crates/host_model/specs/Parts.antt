@@ -1,6 +1,7 @@
 -- The parts of an event, in their order: its kind, its time, what it brings. Each is tried when all its bytes are there.
 use Rattle.std.specs.Prelude.{◌≡◌, ℕ, ◌^◌, ◌<◌, ◌≤◌, ◌⊎◌, List, [], ◌∷◌, ◌++◌, length}
-use Rattle.host_model.specs.Script.{Arrival, kind_byte, head_bytes, time_limit, BeginsNoEvent}
+use Rattle.std.specs.Int.{to_be_bytes, w16}
+use Rattle.host_model.specs.Script.{Arrival, kind_byte, head_with, head_bytes, time_limit, BeginsNoEvent}
 
 -- a kind, and not yet a whole time
 pub record IsInTime (part : List ℕ) : Type 0 where
@@ -9,9 +10,30 @@ pub record IsInTime (part : List ℕ) : Type 0 where
   pub whole : part ≡ kind_byte arrival ∷ [] ++ time
   pub short : length time < 8
 
--- The bytes end inside an event that may follow one at the time `last`: their parts are tried, and the next one lacks bytes.
+-- the kind of a frame, a time that may follow the time `last`, and not yet a whole length
+pub record IsInLength (last : ℕ) (part : List ℕ) : Type 0 where
+  pub at : ℕ
+  pub not_before : last ≤ at
+  pub in_range : at < time_limit
+  pub front : List ℕ
+  pub whole : part ≡ head_with 1 at ++ front
+  pub short : length front < 2
+
+-- the same, with a length, and not yet so many bytes of a frame
+pub record IsInFrame (last : ℕ) (part : List ℕ) : Type 0 where
+  pub at : ℕ
+  pub not_before : last ≤ at
+  pub in_range : at < time_limit
+  pub len : ℕ
+  pub fits : len < 2 ^ 16
+  pub front : List ℕ
+  pub whole : part ≡ head_with 1 at ++ (to_be_bytes w16 len ++ front)
+  pub short : length front < len
+
+-- The bytes end inside an event that may follow one at the time `last`: their parts are tried, and the next one
+-- lacks bytes.
 abbrev pub IsInside : ℕ → List ℕ → Type 0
-IsInside last part = (part ≡ []) ⊎ IsInTime part
+IsInside last part = (part ≡ []) ⊎ (IsInTime part ⊎ (IsInLength last part ⊎ IsInFrame last part))
 
 -- a byte that names no kind
 pub record IsWrongKind (part : List ℕ) : Type 0 where

@@ -1,11 +1,12 @@
 -- The script: a list of events in the order of their times, as docs/FORMATS.md lays it out. Numbers are big-endian.
-use Rattle.std.specs.Prelude.{◌≡◌, ℕ, ◌*◌, ◌^◌, ◌<◌, ◌≤◌, List, [], ◌∷◌, ◌++◌, ⊤}
-use Rattle.std.specs.Int.{to_be_bytes, w64}
+use Rattle.std.specs.Prelude.{◌≡◌, ℕ, ◌*◌, ◌^◌, ◌<◌, ◌≤◌, List, [], ◌∷◌, ◌++◌, length, ⊤}
+use Rattle.std.specs.Int.{to_be_bytes, w16, w64}
 
--- what an event brings: nothing but its time, or a reset of the DHCP client
+-- what an event brings: nothing but its time, a reset of the DHCP client, or a frame
 pub data Arrival : Type 0 where
   Tick : Arrival
   Reset : Arrival
+  Frame : List ℕ → Arrival
 
 -- an event: its time in microseconds, and what it brings
 pub record Event : Type 0 where
@@ -16,20 +17,26 @@ pub record Event : Type 0 where
 abbrev pub kind_byte : Arrival → ℕ
 kind_byte Tick = 2
 kind_byte Reset = 4
+kind_byte (Frame bytes) = 1
 
--- the bytes behind the time spell what the event brings
+-- the bytes behind the time spell what the event brings: a frame its length and itself
 abbrev pub SpellsArrival : Arrival → List ℕ → Type 0
 SpellsArrival Tick rest = rest ≡ []
 SpellsArrival Reset rest = rest ≡ []
+SpellsArrival (Frame bytes) rest = rest ≡ to_be_bytes w16 (length bytes) ++ bytes
 
 -- what can be spelled: lengths and texts in their ranges
 abbrev pub IsArrival : Arrival → Type 0
 IsArrival Tick = ⊤
 IsArrival Reset = ⊤
+IsArrival (Frame bytes) = length bytes < 2 ^ 16
 
 -- the kind and the time
+abbrev pub head_with : ℕ → ℕ → List ℕ
+head_with kind at = kind ∷ [] ++ to_be_bytes w64 at
+
 abbrev pub head_bytes : Arrival → ℕ → List ℕ
-head_bytes arrival at = kind_byte arrival ∷ [] ++ to_be_bytes w64 at
+head_bytes arrival at = head_with (kind_byte arrival) at
 
 -- The bytes spell the event: its kind, its time, and what it brings.
 pub record Spells (event : Event) (bytes : List ℕ) : Type 0 where
@@ -71,5 +78,6 @@ BeginsNoEvent last bytes =
 -- Bytes begin with one event at most: those of two next events are one event's, and the same bytes follow.
 abbrev pub BeginsWithOne : Type 0
 BeginsWithOne = (bytes : List ℕ) (one other : Event) (front rest begin more : List ℕ)
-    → one.at < time_limit → other.at < time_limit → Spells one front → Spells other begin
+    → one.at < time_limit → other.at < time_limit → IsArrival one.arrival → IsArrival other.arrival
+    → Spells one front → Spells other begin
     → bytes ≡ front ++ rest → bytes ≡ begin ++ more → (one ≡ other) × (rest ≡ more)

@@ -1,13 +1,20 @@
 -- The text of a report.
-use Rattle.std.specs.Prelude.{ℕ, ◌/◌, ◌%◌, List, ◌++◌, length, map, codes, Option, Some, None}
+use Rattle.std.specs.Prelude.{ℕ, ◌/◌, ◌%◌, Bool, true, false, List, [], ◌++◌, length, map, codes, Option, Some, None}
 use Rattle.std.specs.Fmt.{decimal}
 use Rattle.std.specs.List.{flat_map, enumerate_from, join_with_byte}
+use Rattle.ether_link.specs.Texts.{layer_word}
+use Rattle.ether_link.specs.declared.err.layers.Layer.{Layer}
+use Rattle.ether_lax.specs.declared.note.FrameNote.{FrameNote}
+use Rattle.ether_lax.specs.declared.note.NetKind.{NetKind}
+use Rattle.ether_lax.specs.declared.note.NetKind.TheVariants as net
+use Rattle.ether_lax.specs.declared.note.TransportKind.{TransportKind}
+use Rattle.ether_lax.specs.declared.note.TransportKind.TheVariants as transport
 use Rattle.net_wire.specs.declared.address.Ipv4Address.{Ipv4Address}
 use Rattle.net_wire.specs.declared.address.Ipv4Cidr.{Ipv4Cidr}
 use Rattle.net_host.specs.declared.report.Row.{Row}
 use Rattle.net_host.specs.declared.report.Sent.{Sent}
 use Rattle.net_host.specs.declared.report.Kind.{Kind}
-use Rattle.net_host.specs.declared.report.Kind.TheVariants.{Tick, Reset}
+use Rattle.net_host.specs.declared.report.Kind.TheVariants.{Tick, Reset, Frame}
 use Rattle.net_host.specs.declared.report.Mark.{Mark}
 use Rattle.net_host.specs.declared.report.Mark.TheVariants.{Dhcp}
 use Rattle.phy_layers.specs.PcapBytes.{epoch_micros}
@@ -20,6 +27,7 @@ time_text micros = decimal (micros / 1000000) ++ codes "." ++ six_digits (micros
 abbrev pub kind_text : Kind → List ℕ
 kind_text Tick = codes "tick"
 kind_text Reset = codes "reset"
+kind_text (Frame length) = codes "frame " ++ decimal length
 
 -- the four numbers of an address, with points between them (RFC 1123, section 2.1)
 abbrev pub address_text : Ipv4Address → List ℕ
@@ -30,11 +38,48 @@ abbrev pub lease_text : Option Ipv4Cidr → List ℕ
 lease_text None = codes "none"
 lease_text (Some cidr) = address_text cidr.address ++ codes "/" ++ decimal cidr.prefix_len
 
--- the line of an event: the number of the row, the time, the kind and the lease
+abbrev pub net_text : NetKind → List ℕ
+net_text net.None = codes "none"
+net_text net.Ipv4 = codes "ipv4"
+net_text net.Ipv6 = codes "ipv6"
+net_text net.Arp = codes "arp"
+
+abbrev pub transport_text : TransportKind → List ℕ
+transport_text transport.None = codes "none"
+transport_text transport.Icmpv4 = codes "icmpv4"
+transport_text transport.Udp = codes "udp"
+transport_text transport.Tcp = codes "tcp"
+transport_text transport.Icmpv6 = codes "icmpv6"
+
+-- 0 for no, 1 for yes
+abbrev pub flag_text : Bool → List ℕ
+flag_text false = codes "0"
+flag_text true = codes "1"
+
+-- the word of the layer at which the dissection stopped
+abbrev pub stop_text : Option Layer → List ℕ
+stop_text None = codes "none"
+stop_text (Some layer) = layer_word layer
+
+-- what is noted of a frame that arrived: how many link extensions it has, its network and transport layer, the window
+-- of its last part, whether bytes are missing or it carries a fragment, and where the dissection stopped
+abbrev pub found_text : FrameNote → List ℕ
+found_text note =
+    codes " exts=" ++ decimal note.exts ++ codes " net=" ++ net_text note.net
+    ++ codes " transport=" ++ transport_text note.transport
+    ++ codes " window=" ++ decimal note.start ++ codes "-" ++ decimal note.end
+    ++ codes " incomplete=" ++ flag_text note.incomplete ++ codes " fragmented=" ++ flag_text note.fragmented
+    ++ codes " stop=" ++ stop_text note.stop
+
+abbrev pub note_text : Option FrameNote → List ℕ
+note_text None = []
+note_text (Some note) = found_text note
+
+-- the line of an event: the number of the row, the time, the kind, what is noted of a frame, and the lease
 abbrev pub event_line : ℕ → Row → List ℕ
 event_line number row =
-    decimal number ++ codes " " ++ time_text (epoch_micros row.at) ++ codes " " ++ kind_text row.kind ++ codes " lease "
-    ++ lease_text row.lease ++ codes "\n"
+    decimal number ++ codes " " ++ time_text (epoch_micros row.at) ++ codes " " ++ kind_text row.kind
+    ++ note_text row.note ++ codes " lease " ++ lease_text row.lease ++ codes "\n"
 
 abbrev pub mark_text : Mark → List ℕ
 mark_text Dhcp = codes "dhcp"

@@ -1,7 +1,7 @@
 -- What arrives in an event.
 use Rattle.std.proofs.Common.{◌≡◌, ℕ, List, length, ap, sym, refl, arith}
 use Rattle.dhcp_client.specs.Client.{Client, after_reset}
-use Rattle.host_model.specs.Script.{Arrival, Tick, Reset}
+use Rattle.host_model.specs.Script.{Arrival, Tick, Reset, Frame}
 use Rattle.host_model.specs.Settings.{Settings}
 use Rattle.host_model.specs.History.{Entry}
 use Rattle.host_model.specs.Anchor.{Anchor, Loss, anchor_after_arrival, anchor_after_time}
@@ -26,9 +26,11 @@ pub heard : (settings : Settings) (before : List Entry) (arrival : Arrival) (anc
     → AgreesUnder settings before (anchor_after_arrival (length before) arrival anchor) (after_arrival arrival client)
 heard settings before Tick anchor client agrees = agrees
 heard settings before Reset anchor client agrees = anew settings before anchor client agrees
+heard settings before (Frame bytes) anchor client agrees = agrees
 
 -- and the address that is held: as long as nothing gives one
 pub lease_stays : (settings : Settings) (before : List Entry) (at : ℕ) (arrival : Arrival) (anchor : Anchor)
     → leased_under anchor ≡ leased_under (anchor_after_time settings before at (anchor_after_arrival (length before) arrival anchor))
 lease_stays settings before at Tick (Loss place) = refl
 lease_stays settings before at Reset (Loss place) = refl
+lease_stays settings before at (Frame bytes) (Loss place) = refl

@@ -13,6 +13,7 @@ pub mod PushLemmas
 pub mod ReadingLemmas
 pub mod RefusedLemmas
 pub mod ReportLemmas
+pub mod RestLemmas
 pub mod SmallLemmas
 pub mod StoppedLemmas
 pub mod WordLemmas

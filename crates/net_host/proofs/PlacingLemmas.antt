@@ -1,6 +1,7 @@
 -- The row of an event.
 use Rattle.std.proofs.Common.{◌≡◌, ℕ, ℤ, pos, List, [], ◌∷◌, ◌++◌, length, Option, ap, subst, ◌∙◌, refl}
 use Rattle.phy_layers.specs.PcapBytes.{epoch_micros}
+use Rattle.ether_lax.specs.declared.note.FrameNote.{FrameNote}
 use Rattle.net_wire.specs.declared.address.Ipv4Cidr.{Ipv4Cidr}
 use Rattle.host_model.specs.declared.words.EventWords.{EventWords}
 use Rattle.host_model.specs.Script.{Event}
@@ -12,36 +13,30 @@ use Rattle.net_host.specs.declared.host.Host.{Host}
 use Rattle.net_host.specs.declared.report.Kind.{Kind}
 use Rattle.net_host.specs.declared.report.Row.{Row}
 use Rattle.net_host.specs.declared.script.ScriptEvent.{ScriptEvent}
-use Rattle.net_host.specs.declared.script.ScriptEvent.TheVariants as script
-use Rattle.net_host.specs.Captured.{sent_records, event_records}
 use Rattle.net_host.specs.Agreement.{AgreesWithHistory}
 use Rattle.net_host.specs.Handling.{HandlesEvent}
-use Rattle.net_host.specs.Reading.{event_at}
+use Rattle.net_host.specs.Reading.{arrival_of, event_at}
 use Rattle.net_host.specs.Report.{new_row}
-use Rattle.net_host.specs.Rows.{kind_of, IsRowOf, AreFramesOf, dhcp_frames}
+use Rattle.net_host.specs.Rows.{kind_of, IsNoteFor, IsRowOf, AreFramesOf, dhcp_frames}
 use Rattle.net_host.specs.Config.{CanRun}
 use Rattle.net_host.specs.Taking.{Standing, standing, PlacesRow}
 
 -- the row of an event, placed and then filled in
 abbrev pub place_row : (at : ℤ) (event : ScriptEvent) (words : EventWords) (host_old host_new : Host) (captured_old captured_new : Option (List ℕ))
-    (report_old begun report_new : List Row) (kind : Kind) (lease : Option Ipv4Cidr) (handled : Handled)
-    → begun ≡ report_old ++ new_row at kind lease ∷ []
+    (report_old begun report_new : List Row) (kind : Kind) (note : Option FrameNote) (lease : Option Ipv4Cidr) (handled : Handled)
+    → begun ≡ report_old ++ new_row at kind note lease ∷ []
     → ((rows : List Row) (row : Row) → begun ≡ rows ++ row ∷ []
     → report_new ≡ rows ++ record row { lease = handled.lease; sent = handled.sent } ∷ [])
-    → kind ≡ kind_of (event_at at event).arrival → HandlesEvent at event words host_old host_new handled
+    → kind ≡ kind_of (arrival_of event) → IsNoteFor (arrival_of event) note → HandlesEvent at event words host_old host_new handled
     → PlacesRow at event words (standing host_old captured_old report_old) (standing host_new captured_new report_new)
-place_row at event words host_old host_new captured_old captured_new report_old begun report_new kind lease handled begins fills is_kind handles = record {
-  row = record { at = at; kind = kind; lease = handled.lease; sent = handled.sent };
-  placed = fills report_old (new_row at kind lease) begins;
+place_row at event words host_old host_new captured_old captured_new report_old begun report_new kind note lease handled begins fills is_kind is_note handles = record {
+  row = record { at = at; kind = kind; note = note; lease = handled.lease; sent = handled.sent };
+  placed = fills report_old (new_row at kind note lease) begins;
   time = refl;
   kind = is_kind;
+  note = is_note;
   handles = handles;
 }
-
--- no frame arrives so far
-pub records_of_sent : (at : ℤ) (event : ScriptEvent) (row : Row) → event_records (event_at at event) row ≡ sent_records (epoch_micros at) row.sent
-records_of_sent at script.Tick row = refl
-records_of_sent at script.Reset row = refl
 
 -- the row that an event placed is the row of its entry, and the host agrees with that
 pub record Placed (settings : Settings) (words : List ℕ) (before : List Entry) (event : Event) (row : Row) (host : Host) : Type 0 where
@@ -62,6 +57,7 @@ placed settings words before at event drawn old new places is_time can agrees ar
       row_of = record {
         time = places.time ∙ is_time;
         kind = places.kind;
+        note = places.note;
         lease = handled.lease;
         dhcp = subst Q is_entry handled.frames;
       };

@@ -86,13 +86,13 @@ taken_next task before now after old new host report at event progress gives =
     let Q : List ℕ → Type 0 = λ l. Consumes before.left after.left l in
     record {
       events = progress.events ++ e ∷ [];
-      front = progress.front ++ gives.front;
+      front = progress.front ++ gives.gives.front;
       part = [];
-      in_order = in_order_push 0 progress.events e progress.in_order (subst P (sym progress.latest) gives.next);
-      few = omega (arith, length-append progress.events (e ∷ []), progress.counted, gives.within);
-      spelled = spells_push progress.events e progress.front gives.front progress.spelled gives.spelled;
-      took = subst Q (sym (append-nil (progress.front ++ gives.front)))
-          (Consumes-trans before.left now.left after.left progress.front gives.front progress.took gives.took);
+      in_order = in_order_push 0 progress.events e progress.in_order (subst P (sym progress.latest) gives.gives.next);
+      few = omega (arith, length-append progress.events (e ∷ []), progress.counted, gives.gives.within);
+      spelled = spells_push progress.events e progress.front gives.gives.front progress.spelled gives.gives.spelled;
+      took = subst Q (sym (append-nil (progress.front ++ gives.gives.front)))
+          (Consumes-trans before.left now.left after.left progress.front gives.gives.front progress.took gives.gives.took);
     }
 
 -- the words of the event that was read next
@@ -128,11 +128,11 @@ goes_on task before now after old new host_old host_new report_old report_new at
       front = next.front;
       in_order = next.in_order;
       few = next.few;
-      counted = omega (arith, length-append progress.events (e ∷ []), progress.counted, ap (λ (s : ReaderState). s.events) gives.moved);
-      latest = last_time_push 0 progress.events e ∙ sym (ap (λ (s : ReaderState). s.last) gives.moved);
-      placed = omega (arith, length-append progress.front gives.front, progress.placed, ap (λ (s : ReaderState). s.offset) gives.moved);
+      counted = omega (arith, length-append progress.events (e ∷ []), progress.counted, ap (λ (s : ReaderState). s.events) gives.gives.moved);
+      latest = last_time_push 0 progress.events e ∙ sym (ap (λ (s : ReaderState). s.last) gives.gives.moved);
+      placed = omega (arith, length-append progress.front gives.gives.front, progress.placed, ap (λ (s : ReaderState). s.offset) gives.gives.moved);
       spelled = next.spelled;
-      took = subst Q (append-nil (progress.front ++ gives.front)) next.took;
+      took = subst Q (append-nil (progress.front ++ gives.gives.front)) next.took;
       agrees = subst V (sym (history_from-push task.settings task.words [] progress.events e)) done.agrees;
       answered = record {
         enough = omega (arith, length-append progress.events (e ∷ []), progress.counted);

@@ -1,19 +1,23 @@
 -- Pieces of bytes that a source gives.
 use Rattle.std.proofs.Common.{◌≡◌, ℕ, ◌+◌, ◌^◌, ◌<◌, ◌≤◌, List, [], ◌∷◌, ◌++◌, length, take, drop, ap, sym, ◌∙◌, refl, arith}
-use Rattle.std.proofs.Common.{◌⊎◌, inl, inr, ⊎_elim, leb, false, get_or, subst, Option, Some, None, IfSome, append-nil, length-append}
+use Rattle.std.proofs.Common.{◌⊎◌, inl, inr, ⊎_elim, leb, false, get_or, subst, Option, Some, None, IfSome, append-nil, length-append, ℤ, pos}
 use Rattle.std.specs.Int.{from_be_bytes, w64}
 use Rattle.std.specs.Io.KnownBytes.{Consumes}
 use Rattle.std.proofs.KnownBytes.{Consumes-trans}
 use Rattle.std.proofs.lemmas.Nat.{be_bytes_8}
 use Rattle.std.proofs.lemmas.List.{take-append-drop, drop-drop, take_at, length-take, take-append-le}
 use Rattle.std.proofs.Math.Seq.{take-append-add}
-use Rattle.host_model.specs.Script.{Arrival, Tick, Reset, kind_byte, head_bytes, time_limit, BeginsNoEvent}
+use Rattle.phy_layers.specs.PcapBytes.{epoch_micros}
+use Rattle.host_model.specs.Script.{Event, kind_byte, head_bytes, time_limit, BeginsNoEvent}
 use Rattle.host_model.specs.Parts.{IsInside, IsWrongKind, IsWrongTime, IsRefused}
 use Rattle.host_model.proofs.PartLemmas.{refused, cut_off}
 use Rattle.net_host.specs.declared.script.EventKind.{EventKind}
 use Rattle.net_host.specs.declared.script.EventKind.TheVariants as kind
-use Rattle.net_host.specs.Head.{byte_of}
-use Rattle.net_host.specs.Reading.{EndsInside, EndsWith}
+use Rattle.net_host.specs.Head.{byte_of, arrival_with}
+use Rattle.net_host.specs.ReaderState.{ReaderState}
+use Rattle.net_host.specs.Reading.{event_at, event_with, EndsInside, EndsWith, GivesNext, GivesEvent}
+use Rattle.net_host.specs.declared.script.EventHead.{EventHead}
+use Rattle.net_host.specs.declared.script.ScriptEvent.{ScriptEvent}
 use Rattle.net_host.specs.declared.script.ReadEventError.{ReadEventError}
 use Rattle.net_host.specs.declared.script.ReadEventError.TheVariants as script
 use Rattle.std.proofs.lemmas.Bool.Decides.{nat_tests}
@@ -45,10 +49,11 @@ kind_and_time old mid new kind time value is_one is_value first second =
     let P : List ℕ → Type 0 = λ l. Consumes old new (l ++ time) in
     subst P (one_byte kind value is_one is_value) (Consumes-trans old mid new kind time first second)
 
--- the arrival of a kind that has no rest
-pub arrival_of : (kind : EventKind) → (arrival : Arrival) × (byte_of kind ≡ kind_byte arrival)
-arrival_of kind.Tick = (Tick, refl)
-arrival_of kind.Reset = (Reset, refl)
+-- the byte of a kind is that of what it brings
+pub same_byte : (kind : EventKind) (frame : List ℕ) → byte_of kind ≡ kind_byte (arrival_with kind frame)
+same_byte kind.Tick frame = refl
+same_byte kind.Reset frame = refl
+same_byte kind.Frame frame = refl
 
 -- no part, or a part of a time
 pub in_kind : (last : ℕ) (part : List ℕ) → length part < 1 → IsInside last part
@@ -56,22 +61,22 @@ in_kind last [] short = inl refl
 in_kind last (byte ∷ part) short = absurd (omega (arith, short))
 
 pub in_time : (last : ℕ) (kind : EventKind) (time : List ℕ) → length time < 8 → IsInside last (byte_of kind ∷ [] ++ time)
-in_time last kind time short = inr (record {
-  arrival = (arrival_of kind).0;
+in_time last kind time short = inr (inl (record {
+  arrival = arrival_with kind [];
   time = time;
-  whole = ap (λ b. b ∷ [] ++ time) (arrival_of kind).1;
+  whole = ap (λ b. b ∷ [] ++ time) (same_byte kind []);
   short = short;
-})
+}))
 
 -- a time that is refused
 pub wrong_time : (last micros : ℕ) (kind : EventKind) (time : List ℕ) → length time ≡ 8 → ((i : ℕ) → get_or time i 0 < 256)
     → micros ≡ from_be_bytes w64 time → micros < 2 ^ 64 → (micros < last) ⊎ (time_limit ≤ micros) → IsRefused last (byte_of kind ∷ [] ++ time)
 wrong_time last micros kind time is_long are_bytes number fits wrong = inr (record {
-  arrival = (arrival_of kind).0;
+  arrival = arrival_with kind [];
   at = micros;
   fits = fits;
-  whole = ap (λ b. b ∷ [] ++ time) (arrival_of kind).1
-      ∙ ap (λ l. kind_byte (arrival_of kind).0 ∷ [] ++ l) (sym (be_bytes_8 time micros is_long are_bytes number));
+  whole = ap (λ b. b ∷ [] ++ time) (same_byte kind [])
+      ∙ ap (λ l. kind_byte (arrival_with kind []) ∷ [] ++ l) (sym (be_bytes_8 time micros is_long are_bytes number));
   wrong = wrong;
 })
 
@@ -125,3 +130,11 @@ says_script (script.Script at) offset max events last left_old left_new says too
     (told.0, grind (arith, nat_tests, told.1), ends_script last left_old left_new took.0 took.1 took.2)
 says_script script.Limit offset max events last left_old left_new says took = λ o is. cc
 says_script script.Read offset max events last left_old left_new says took = λ o is. cc
+
+-- an event that was read, with its time
+pub given_event : (max : ℕ) (old new : ReaderState) (left_old left_new : Option (List ℕ)) (head : EventHead) (at : ℤ) (event : ScriptEvent)
+    → GivesNext max old new left_old left_new (event_with head new.frame) → event_at at event ≡ event_with head new.frame → at ≡ pos head.micros
+    → GivesEvent max old new left_old left_new at event
+given_event max old new left_old left_new head at event gives is_event is_time =
+    let P : Event → Type 0 = λ e. GivesNext max old new left_old left_new e in
+    record { time = is_time ∙ ap pos (sym (ap epoch_micros is_time)); gives = subst P (sym is_event) gives }

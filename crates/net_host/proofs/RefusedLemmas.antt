@@ -14,7 +14,7 @@ use Rattle.net_host.specs.declared.host.Host.{Host}
 use Rattle.net_host.specs.declared.report.Row.{Row}
 use Rattle.net_host.specs.declared.run_script.RunError.TheVariants.{NoMemory}
 use Rattle.net_host.specs.declared.script.ScriptEvent.{ScriptEvent}
-use Rattle.net_host.specs.Captured.{event_records, run_capture}
+use Rattle.net_host.specs.Captured.{arrived_record, sent_records, event_records, run_capture}
 use Rattle.net_host.specs.Config.{CanRun}
 use Rattle.net_host.specs.Outside.{Outside}
 use Rattle.net_host.specs.ReaderState.{ReaderState}
@@ -79,7 +79,7 @@ row_leaves task before now after old new host_old host_new report_old report_new
     let U : List Row → Type 0 = λ rows. AreRows task.settings task.words (progress.events ++ e ∷ []) rows in
     ⊎_elim
     (λ (begun : LeavesNewRow at event (standing host_old now.captured report_old) (standing host_new after.captured report_new)).
-    let row = new_row at (kind_of e.arrival) host_old.lease in
+    let row = new_row at (kind_of e.arrival) begun.note host_old.lease in
     let grown = capture_push progress.events report_old e row counted in
     record {
       taken = taken_next task before now after old new host_old report_old at event progress gives;
@@ -88,14 +88,16 @@ row_leaves task before now after old new host_old host_new report_old report_new
         earlier = progress.events;
         event = e;
         done = report_old;
+        note = begun.note;
+        noted = begun.noted;
         event_last = refl;
-        row_last = begun.placed ∙ ap (λ t. report_old ++ new_row t (kind_of e.arrival) host_old.lease ∷ []) gives.time
-            ∙ ap (λ l. report_old ++ new_row (pos (epoch_micros at)) (kind_of e.arrival) l ∷ []) progress.agrees.lease;
+        row_last = begun.placed ∙ ap (λ t. report_old ++ new_row t (kind_of e.arrival) begun.note host_old.lease ∷ []) gives.time
+            ∙ ap (λ l. report_old ++ new_row (pos (epoch_micros at)) (kind_of e.arrival) begun.note l ∷ []) progress.agrees.lease;
         rows = answered.rows;
       });
       captured = subst S (sym begun.placed) (subst T (sym grown)
-          (AppendsFront-longer before.captured after.captured (run_capture progress.events report_old) (event_records e row)
-          (kept_front before.captured now.captured after.captured (run_capture progress.events report_old) answered.captured begun.kept)));
+          (AppendsFront-then before.captured now.captured after.captured (run_capture progress.events report_old) (event_records e row)
+          answered.captured (AppendsFront-longer now.captured after.captured (arrived_record e.at e.arrival) (sent_records e.at []) begun.captured)));
     })
     (λ (front : LeavesFront at event drawn (standing host_old now.captured report_old) (standing host_new after.captured report_new)).
     let grown = capture_push progress.events report_old e front.places.row counted in

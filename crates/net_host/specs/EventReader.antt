@@ -1,5 +1,5 @@
 -- What the fields of a reader of events stand for.
-use Rattle.std.specs.Prelude.{◌*◌, ◌≤◌}
+use Rattle.std.specs.Prelude.{◌≡◌, ◌*◌, ◌≤◌, take, vec_len}
 use Rattle.net_host.specs.declared.event_reader.EventReader.TheInside.{Inside}
 use Rattle.net_host.specs.ReaderState.{ReaderState}
 
@@ -10,8 +10,11 @@ state_inside reader = record {
   last = reader.last_micros;
   max_events = reader.max_events;
   is_through = reader.is_through;
+  frame = take reader.len reader.rest.items;
 }
 
--- an event has at most 65546 bytes
-abbrev pub IsPlacedInside : Inside → Type 0
-IsPlacedInside reader = reader.offset ≤ 65546 * reader.events
+-- an event has at most 65546 bytes, and its frame 65535
+pub record IsPlacedInside (reader : Inside) : Type 0 where
+  pub placed : reader.offset ≤ 65546 * reader.events
+  pub room : vec_len reader.rest ≡ 65535
+  pub len : reader.len ≤ 65535

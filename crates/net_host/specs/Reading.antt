@@ -2,8 +2,10 @@
 use Rattle.std.specs.Prelude.{◌≡◌, ℕ, ◌<◌, ◌⊎◌, List, length, ℤ, pos, Option}
 use Rattle.std.specs.Io.KnownBytes.{Consumes, IsAtEnd}
 use Rattle.phy_layers.specs.PcapBytes.{epoch_micros}
-use Rattle.host_model.specs.Script.{Arrival, Tick, Reset, Event, Spells, IsNext}
+use Rattle.host_model.specs.Script.{Arrival, Tick, Reset, Frame, Event, Spells, IsNext}
 use Rattle.host_model.specs.Parts.{IsInside, IsRefused}
+use Rattle.net_host.specs.Head.{arrival_with}
+use Rattle.net_host.specs.declared.script.EventHead.{EventHead}
 use Rattle.net_host.specs.declared.script.ScriptEvent.{ScriptEvent}
 use Rattle.net_host.specs.declared.script.ScriptEvent.TheVariants as script
 use Rattle.net_host.specs.declared.script.ReadEventError.{ReadEventError}
@@ -14,21 +16,31 @@ use Rattle.net_host.specs.ReaderState.{ReaderState, moved_by, through_with}
 abbrev pub arrival_of : ScriptEvent → Arrival
 arrival_of script.Tick = Tick
 arrival_of script.Reset = Reset
+arrival_of (script.Frame bytes) = Frame bytes.now
 
 -- and at a time, as an event of the script
 abbrev pub event_at : ℤ → ScriptEvent → Event
 event_at at event = record { at = epoch_micros at; arrival = arrival_of event }
 
+-- a head, and the frame that was read behind it, as an event of the script
+abbrev pub event_with : EventHead → List ℕ → Event
+event_with head frame = record { at = head.micros; arrival = arrival_with head.kind frame }
+
 -- The next event: it stood whole in front of what was left, and may come next.
-pub record GivesEvent (max : ℕ) (old new : ReaderState) (left_old left_new : Option (List ℕ))
-    (at : ℤ) (event : ScriptEvent) : Type 0 where
+pub record GivesNext (max : ℕ) (old new : ReaderState) (left_old left_new : Option (List ℕ)) (event : Event)
+    : Type 0 where
   pub front : List ℕ
   pub within : old.events < max
-  pub next : IsNext old.last (event_at at event)
-  pub time : at ≡ pos (epoch_micros at)
-  pub spelled : Spells (event_at at event) front
+  pub next : IsNext old.last event
+  pub spelled : Spells event front
   pub took : Consumes left_old left_new front
-  pub moved : new ≡ moved_by max (length front) (epoch_micros at) old
+  pub moved : new ≡ moved_by max (length front) event.at new.frame old
+
+-- and its time, and what it brings
+pub record GivesEvent (max : ℕ) (old new : ReaderState) (left_old left_new : Option (List ℕ))
+    (at : ℤ) (event : ScriptEvent) : Type 0 where
+  pub time : at ≡ pos (epoch_micros at)
+  pub gives : GivesNext max old new left_old left_new (event_at at event)
 
 -- nothing was left
 pub record IsThrough (max : ℕ) (old new : ReaderState) (left_old left_new : Option (List ℕ)) : Type 0 where

@@ -1,8 +1,10 @@
 -- What a report says of the events of a run.
-use Rattle.std.specs.Prelude.{◌≡◌, ℕ, List, [], ◌∷◌, Option, Some, None, pos}
+use Rattle.std.specs.Prelude.{◌≡◌, ℕ, List, [], ◌∷◌, length, Option, Some, None, pos}
+use Rattle.ether_lax.specs.Notes.{IsNoteOf}
+use Rattle.ether_lax.specs.declared.note.FrameNote.{FrameNote}
 use Rattle.net_wire.specs.Datagram.{Datagram, IsSentFrame}
 use Rattle.net_wire.specs.DhcpBytes.{message_bytes}
-use Rattle.host_model.specs.Script.{Arrival, Tick, Reset, Event}
+use Rattle.host_model.specs.Script.{Arrival, Tick, Reset, Frame, Event}
 use Rattle.host_model.specs.Settings.{Settings}
 use Rattle.host_model.specs.History.{Entry, SentMessage, Transmission}
 use Rattle.host_model.specs.Anchor.{anchor_at}
@@ -19,6 +21,13 @@ use Rattle.net_host.specs.declared.report.Sent.{Sent}
 abbrev pub kind_of : Arrival → Kind
 kind_of Tick = kind.Tick
 kind_of Reset = kind.Reset
+kind_of (Frame bytes) = kind.Frame (length bytes)
+
+-- a note on what an event brings: that of its frame, where it brings one
+abbrev pub IsNoteFor : Arrival → Option FrameNote → Type 0
+IsNoteFor Tick note = note ≡ None
+IsNoteFor Reset note = note ≡ None
+IsNoteFor (Frame bytes) note = (found : FrameNote) × (note ≡ Some found) × IsNoteOf bytes found
 
 -- the frames that are marked as those of the DHCP client
 abbrev pub with_dhcp : Mark → List ℕ → List (List ℕ) → List (List ℕ)
@@ -49,11 +58,12 @@ abbrev pub AreFramesOf : Settings → Option SentMessage → List (List ℕ) →
 AreFramesOf settings None frames = frames ≡ []
 AreFramesOf settings (Some sent) frames = IsFrameOf settings sent frames
 
--- The row of an event whose entry is this one: its time and kind, the address that is leased after it, and, marked as
--- such, the one frame of its DHCP message, or none.
+-- The row of an event whose entry is this one: its time and kind, the note of the frame that arrived, if one did, the
+-- address that is leased after it, and, marked as such, the one frame of its DHCP message, or none.
 pub record IsRowOf (settings : Settings) (before : List Entry) (entry : Entry) (row : Row) : Type 0 where
   pub time : row.at ≡ pos entry.event.at
   pub kind : row.kind ≡ kind_of entry.event.arrival
+  pub note : IsNoteFor entry.event.arrival row.note
   pub lease : row.lease ≡ leased_under (anchor_at settings before entry.event)
   pub dhcp : AreFramesOf settings entry.sent (dhcp_frames row.sent)
 

@@ -3,6 +3,7 @@ use Rattle.std.specs.Prelude.{◌≡◌, ℕ, ◌*◌, ◌<◌, ◌≤◌, ◌�
 use Rattle.std.specs.Result.{IsErrOf}
 use Rattle.std.specs.Io.KnownBytes.{Appends, Consumes, IsAtEnd}
 use Rattle.wire_base.specs.Causes.{AppendsFront, IsRisen}
+use Rattle.ether_lax.specs.declared.note.FrameNote.{FrameNote}
 use Rattle.net_wire.specs.declared.address.Ipv4Cidr.{Ipv4Cidr}
 use Rattle.host_model.specs.Anchor.{anchor_before}
 use Rattle.host_model.specs.Chronicle.{history}
@@ -18,7 +19,7 @@ use Rattle.net_host.specs.declared.run_script.RunError.TheVariants.{Script, Limi
 use Rattle.net_host.specs.Outside.{Outside, IsQuiet}
 use Rattle.net_host.specs.Reading.{EndsWith}
 use Rattle.net_host.specs.Report.{new_row}
-use Rattle.net_host.specs.Rows.{AreRows, kind_of}
+use Rattle.net_host.specs.Rows.{AreRows, kind_of, IsNoteFor}
 use Rattle.net_host.specs.Captured.{run_capture}
 
 -- what a run is told: the values of its host, the words of its events, and how many events there may be
@@ -89,9 +90,11 @@ pub record IsUnfinished (task : Task) (report : List Row) (events : List Event) 
   pub earlier : List Event
   pub event : Event
   pub done : List Row
+  pub note : Option FrameNote
+  pub noted : IsNoteFor event.arrival note
   pub event_last : events ≡ earlier ++ event ∷ []
   pub row_last : report
-      ≡ done ++ new_row (pos event.at) (kind_of event.arrival) (lease_before task earlier) ∷ []
+      ≡ done ++ new_row (pos event.at) (kind_of event.arrival) note (lease_before task earlier) ∷ []
   pub rows : AreRows task.settings task.words earlier done
 
 -- the last event has no row yet

@@ -2,16 +2,18 @@
 use Rattle.std.specs.Prelude.{◌≡◌, ℕ, ◌⊎◌, ℤ, List, [], ◌∷◌, ◌++◌, Option}
 use Rattle.std.specs.Io.KnownBytes.{Appends, Keeps}
 use Rattle.wire_base.specs.Causes.{AppendsFront}
+use Rattle.ether_lax.specs.declared.note.FrameNote.{FrameNote}
+use Rattle.phy_layers.specs.PcapBytes.{epoch_micros}
 use Rattle.host_model.specs.declared.words.EventWords.{EventWords}
 use Rattle.net_host.specs.declared.host.Handled.{Handled}
 use Rattle.net_host.specs.declared.host.Host.{Host}
 use Rattle.net_host.specs.declared.report.Row.{Row}
 use Rattle.net_host.specs.declared.script.ScriptEvent.{ScriptEvent}
-use Rattle.net_host.specs.Captured.{event_records}
+use Rattle.net_host.specs.Captured.{arrived_record, event_records}
 use Rattle.net_host.specs.Handling.{HandlesEvent}
-use Rattle.net_host.specs.Reading.{event_at}
+use Rattle.net_host.specs.Reading.{arrival_of, event_at}
 use Rattle.net_host.specs.Report.{new_row}
-use Rattle.net_host.specs.Rows.{kind_of}
+use Rattle.net_host.specs.Rows.{kind_of, IsNoteFor}
 
 -- the host, the bytes of the capture where they are told, and the report
 pub record Standing : Type 0 where
@@ -31,7 +33,8 @@ pub record PlacesRow (at : ℤ) (event : ScriptEvent) (words : EventWords) (old 
   pub row : Row
   pub placed : new.report ≡ old.report ++ row ∷ []
   pub time : row.at ≡ at
-  pub kind : row.kind ≡ kind_of (event_at at event).arrival
+  pub kind : row.kind ≡ kind_of (arrival_of event)
+  pub note : IsNoteFor (arrival_of event) row.note
   pub handles : HandlesEvent at event words old.host new.host (handled_in row)
 
 -- and the capture grew by the records of the event
@@ -44,10 +47,13 @@ pub record LeavesNoRow (old new : Standing) : Type 0 where
   pub same : new.report ≡ old.report
   pub kept : Keeps old.captured new.captured
 
--- the row is placed with the address that the host held, and nothing was sent yet
+-- The row is placed with the address that the host held, and nothing was sent yet. The capture grew by a front of the
+-- record of the frame that arrived, if one did.
 pub record LeavesNewRow (at : ℤ) (event : ScriptEvent) (old new : Standing) : Type 0 where
-  pub placed : new.report ≡ old.report ++ new_row at (kind_of (event_at at event).arrival) old.host.lease ∷ []
-  pub kept : Keeps old.captured new.captured
+  pub note : Option FrameNote
+  pub noted : IsNoteFor (arrival_of event) note
+  pub placed : new.report ≡ old.report ++ new_row at (kind_of (arrival_of event)) note old.host.lease ∷ []
+  pub captured : AppendsFront old.captured new.captured (arrived_record (epoch_micros at) (arrival_of event))
 
 -- the row is that of the event, and the capture grew by a front of its records
 pub record LeavesFront (at : ℤ) (event : ScriptEvent) (words : EventWords) (old new : Standing) : Type 0 where

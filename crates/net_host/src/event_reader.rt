@@ -1,27 +1,25 @@
 //! The events of a script, read one behind the other.
-ghost use Rattle.std.specs.Prelude.{◌≡◌, ℕ, ◌<◌, ◌≤◌, true, false, length, IfOk, IfErr, IfSome, IfNone};
+ghost use Rattle.std.specs.Prelude.{◌≡◌, ℕ, pos, ◌<◌, ◌≤◌, true, false, length, take, vec_len, IfOk, IfErr, IfSome, IfNone};
 ghost use Rattle.std.specs.Result.{IsErrOf};
 ghost use Rattle.wire_base.specs.Causes.{IsRisen};
-ghost use Rattle.host_model.specs.Script.{BeginsNoEvent};
-ghost use Rattle.net_host.specs.Head.{event_of};
+ghost use Rattle.host_model.specs.Script.{BeginsNoEvent, time_limit};
 ghost use Rattle.net_host.specs.ReaderState.{at_start};
-ghost use Rattle.net_host.specs.Reading.{GivesEvent, IsThrough, RefusesEvent};
+ghost use Rattle.net_host.specs.Reading.{event_at, event_with, GivesNext, IsThrough, RefusesEvent};
 ghost use Rattle.net_host.specs.declared.script.ReadEventError.TheVariants.{Script, Limit, Read};
 
-use crate::script::{EventKind, HEAD_LEN, read_head};
+use crate::script::{EventHead, EventKind, FRAME_LEN, HEAD_LEN, read_head, read_rest, rest_len};
 use crate::{ReadEventError, ScriptEvent, ScriptSource};
 use net_wire::{Instant, NoMemory};
 use std::alloc::Global;
 use std::marker::Model;
 
-/// The most bytes behind the head of an event: so far no event has any.
-const REST_LEN: usize = 0;
-
 /// Reads the events of one script, and knows where it is on it.
 #[derive(Debug, Drop)]
 pub struct EventReader {
-    /// Takes the bytes behind the head of an event.
+    /// Takes the bytes of a frame: the longest one has room.
     rest: Vec<u8>,
+    /// How many of them are the frame of the event that came last.
+    len: usize,
     offset: u64,
     events: u32,
     last_micros: u64,
@@ -46,11 +44,12 @@ impl EventReader {
     pub fn new(alloc: Global) -> Result<EventReader, NoMemory>
         ensures value { IfOk result (λ reader. reader ≡ at_start) }
     {
-        let Ok(rest) = vec![in alloc; 0; REST_LEN] else {
+        let Ok(rest) = vec![in alloc; 0; FRAME_LEN] else {
             return Err(NoMemory);
         };
         Ok(EventReader {
             rest,
+            len: 0,
             offset: 0,
             events: 0,
             last_micros: 0,
@@ -59,17 +58,18 @@ impl EventReader {
         })
     }
 
-    /// Reads the next event of a script that has at most `max_events`, with its time; at the end of input there is none. All
-    /// calls are told the same number and the same source, from which nothing else reads in between.
+    /// Reads the next event of a script that has at most `max_events`, and answers its head; at the end of input there is
+    /// none. All calls are told the same number and the same source, from which nothing else reads in between.
     pub fn next<S: ScriptSource>(
         &mut self,
         source: &mut S,
         max_events: u32,
-    ) -> Result<Option<(Instant, ScriptEvent)>, ReadEventError>
+    ) -> Result<Option<EventHead>, ReadEventError>
         requires goes_on { self.old.is_through ≡ false }
         requires limit { IfSome self.old.max_events (λ max. max ≡ max_events) }
-        ensures found { IfOk result (λ found. IfSome found (λ e.
-            GivesEvent max_events self.old self.new (S.left source.old) (S.left source.new) e.0 e.1)) }
+        ensures found { IfOk result (λ found. IfSome found (λ head.
+            GivesNext max_events self.old self.new (S.left source.old) (S.left source.new)
+            (event_with head self.new.frame))) }
         ensures ended { IfOk result (λ found. IfNone found (
             IsThrough max_events self.old self.new (S.left source.old) (S.left source.new))) }
         ensures err { IfErr result (
@@ -86,27 +86,31 @@ impl EventReader {
     {
         self.max_events = Some(max_events);
         self.is_through = true;
+        self.len = 0;
         let is_full = self.events >= max_events;
         let Some(head) = read_head(source, self.last_micros, self.offset, is_full)? else {
             return Ok(None);
         };
+        let len = read_rest(source, head.kind, self.offset, self.rest.as_mut_slice())?;
         self.is_through = false;
-        self.offset += HEAD_LEN;
+        self.len = len;
+        self.offset += HEAD_LEN + rest_len(head.kind, len);
         self.events += 1;
         self.last_micros = head.micros;
-        Ok(Some((
-            Instant::from_micros(head.micros as i64),
-            event_of(head.kind),
-        )))
+        Ok(Some(head))
     }
-}
 
-/// The event of a kind that has no rest.
-fn event_of(kind: EventKind) -> ScriptEvent
-    ensures { result ≡ event_of kind }
-{
-    match kind {
-        EventKind::Tick => ScriptEvent::Tick,
-        EventKind::Reset => ScriptEvent::Reset,
+    /// The event whose head was read last, with its time. It borrows the frame from the reader.
+    pub fn event(&self, head: EventHead) -> (Instant, ScriptEvent<'_>)
+        requires { head.micros < time_limit }
+        ensures event { event_at result.0 result.1 ≡ event_with head self.now.frame }
+        ensures time { result.0 ≡ pos head.micros }
+    {
+        let event = match head.kind {
+            EventKind::Frame => ScriptEvent::Frame(&self.rest.as_slice()[..self.len]),
+            EventKind::Tick => ScriptEvent::Tick,
+            EventKind::Reset => ScriptEvent::Reset,
+        };
+        (Instant::from_micros(head.micros as i64), event)
     }
 }

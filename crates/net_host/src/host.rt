@@ -62,12 +62,12 @@ impl<'a> Host<'a> {
     pub fn handle(
         &mut self,
         at: Instant,
-        event: ScriptEvent,
+        event: ScriptEvent<'_>,
         words: EventWords,
     ) -> Result<Handled, NoMemory>
         requires ready { IsReady self.old.dhcp self.old.ip_mtu }
         requires time { IsCapturable at }
-        ensures value { IfOk result (HandlesEvent at event words self.old self.new) }
+        ensures value { IfOk result (HandlesEvent at event.entry words self.old self.new) }
         ensures within { IfOk result (λ handled. AreCapturable handled.sent) }
         ensures ready { IsReady self.new.dhcp self.new.ip_mtu }
     {
@@ -91,11 +91,12 @@ impl<'a> Host<'a> {
 }
 
 /// Tells the DHCP client what an event brings.
-fn hear(dhcp: &mut Socket<'_>, event: ScriptEvent)
-    ensures value { dhcp.new ≡ after_arrival (arrival_of event) dhcp.old }
+fn hear(dhcp: &mut Socket<'_>, event: ScriptEvent<'_>)
+    ensures value { dhcp.new ≡ after_arrival (arrival_of event.entry) dhcp.old }
     ensures ready { (ip_mtu : ℕ) → IsReady dhcp.old ip_mtu → IsReady dhcp.new ip_mtu }
 {
     match event {
+        ScriptEvent::Frame(_) => {}
         ScriptEvent::Tick => {}
         ScriptEvent::Reset => dhcp.reset(),
     }

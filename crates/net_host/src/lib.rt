@@ -15,6 +15,6 @@ pub use config::{HostConfig, HostConfigError, HostValues};
 pub use event_reader::EventReader;
 pub use report::{Kind, Mark, Report, Row, Sent, SentList};
 pub use run_script::{RunError, run};
-pub use script::{ReadEventError, ScriptEvent};
+pub use script::{EventHead, EventKind, ReadEventError, ScriptEvent};
 pub use source::{ReadFault, ScriptSource};
 pub use sources::{ReadSource, SureSource};

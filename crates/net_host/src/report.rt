@@ -3,6 +3,7 @@ ghost use Rattle.std.specs.Prelude.{◌≡◌, [], ◌∷◌, ◌++◌, List, On
 ghost use Rattle.net_host.specs.declared.report.Row.{Row};
 ghost use Rattle.net_host.specs.Report.{new_row};
 
+use ether_lax::FrameNote;
 use net_wire::{Instant, Ipv4Cidr, NoMemory};
 use phy_layers::FrameBytes;
 use std::alloc::Global;
@@ -11,6 +12,8 @@ use std::marker::Model;
 /// What an event was.
 #[derive(Clone, Copy, Debug, PartialEq, Eq)]
 pub enum Kind {
+    /// A frame of so many bytes arrived.
+    Frame { length: u16 },
     /// Time passed.
     Tick,
     /// The DHCP client began anew.
@@ -83,6 +86,8 @@ pub struct Row {
     /// The time of the event.
     pub at: Instant,
     pub kind: Kind,
+    /// What the frame that arrived is, by the dissector; `None` where none arrived.
+    pub note: Option<FrameNote>,
     /// The address that is leased after the event, and its network's prefix; `None` without a lease.
     pub lease: Option<Ipv4Cidr>,
     /// The frames that were sent.
@@ -127,14 +132,16 @@ impl Report {
         alloc: Global,
         at: Instant,
         kind: Kind,
+        note: Option<FrameNote>,
         lease: Option<Ipv4Cidr>,
     ) -> Result<(), NoMemory>
-        ensures ok { OnOk result (self.new ≡ self.old ++ new_row at kind lease ∷ []) }
+        ensures ok { OnOk result (self.new ≡ self.old ++ new_row at kind note lease ∷ []) }
         ensures err { OnErr result (self.new ≡ self.old) }
     {
         let row = Row {
             at,
             kind,
+            note,
             lease,
             sent: SentList::new(alloc),
         };

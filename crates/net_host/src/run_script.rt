@@ -5,19 +5,21 @@ ghost use Rattle.wire_base.specs.Causes.{IsRisen};
 ghost use Rattle.phy_layers.specs.Sink.{Took};
 ghost use Rattle.phy_layers.specs.PcapBytes.{epoch_micros, IsCapturable};
 ghost use Rattle.host_model.specs.Chronicle.{words_at};
-ghost use Rattle.net_host.specs.Captured.{sent_records};
+ghost use Rattle.host_model.specs.Script.{IsArrival};
+ghost use Rattle.net_host.specs.Captured.{arrived_record, sent_records};
 ghost use Rattle.net_host.specs.Report.{AreCapturable};
 ghost use Rattle.net_host.specs.Polling.{IsReady};
-ghost use Rattle.net_host.specs.Rows.{kind_of};
+ghost use Rattle.net_host.specs.Rows.{kind_of, IsNoteFor};
 ghost use Rattle.net_host.specs.Outside.{outside_of, IsQuiet};
 ghost use Rattle.net_host.specs.Run.{task_of, Finished, Leaves, HasCause, Completes};
 ghost use Rattle.net_host.specs.Taking.{standing, TakesEvent, LeavesRow, LeavesEvent};
-ghost use Rattle.net_host.specs.Reading.{event_at};
+ghost use Rattle.net_host.specs.Reading.{arrival_of};
 
 use crate::host::Host;
 use crate::{
     EventReader, HostConfig, Kind, ReadEventError, Report, ScriptEvent, ScriptSource, Sent,
 };
+use ether_lax::{FrameNote, note_of};
 use host_model::EventWords;
 use net_wire::{Instant, NoMemory};
 use phy_layers::{PcapLinkType, PcapSink, SinkError};
@@ -99,12 +101,46 @@ fn words_at(words: &[u32], place: u32) -> Option<EventWords>
 }
 
 /// What a row says that an event was.
-fn kind_of(event: ScriptEvent) -> Kind
-    ensures { (at : ℤ) → result ≡ kind_of (event_at at event).arrival }
+fn kind_of(event: ScriptEvent<'_>) -> Kind
+    requires { IsArrival (arrival_of event) }
+    ensures { result ≡ kind_of (arrival_of event.entry) }
 {
     match event {
+        ScriptEvent::Frame(frame) => Kind::Frame {
+            length: frame.len() as u16,
+        },
         ScriptEvent::Tick => Kind::Tick,
         ScriptEvent::Reset => Kind::Reset,
+    }
+}
+
+/// What a row notes of a frame that arrived.
+fn note_for(event: ScriptEvent<'_>) -> Option<FrameNote>
+    requires { IsArrival (arrival_of event) }
+    ensures { IsNoteFor (arrival_of event.entry) result }
+{
+    match event {
+        ScriptEvent::Frame(frame) => Some(note_of(frame)),
+        ScriptEvent::Tick => None,
+        ScriptEvent::Reset => None,
+    }
+}
+
+/// Captures the frame that arrived, where one did.
+fn capture_arrived<C: PcapSink>(
+    capture: &mut C,
+    at: Instant,
+    event: ScriptEvent<'_>,
+) -> Result<(), SinkError>
+    requires time { IsCapturable at }
+    requires arrival { IsArrival (arrival_of event) }
+    ensures { Took C.bytes C.faults C.grows result
+        (arrived_record (epoch_micros at) (arrival_of event.entry)) capture.old capture.new }
+{
+    match event {
+        ScriptEvent::Frame(frame) => capture.packet(at, frame),
+        ScriptEvent::Tick => Ok(()),
+        ScriptEvent::Reset => Ok(()),
     }
 }
 
@@ -121,25 +157,26 @@ fn capture_sent<C: PcapSink>(capture: &mut C, at: Instant, sent: &[Sent]) -> Res
     Ok(())
 }
 
-/// Takes an event in: places its row, sends what it brings about, and captures that.
+/// Takes an event in: places its row, captures the frame that arrived, sends what the event brings about, and captures that.
 fn take_event<C: PcapSink>(
     host: &mut Host<'_>,
     capture: &mut C,
     report: &mut Report,
     at: Instant,
-    event: ScriptEvent,
+    event: ScriptEvent<'_>,
     words: EventWords,
 ) -> Result<(), RunError>
     requires ready { IsReady host.old.dhcp host.old.ip_mtu }
     requires time { IsCapturable at }
-    ensures ok { OnOk result (TakesEvent at event words
+    requires arrival { IsArrival (arrival_of event) }
+    ensures ok { OnOk result (TakesEvent at event.entry words
         (standing host.old (C.bytes capture.old) report.old)
         (standing host.new (C.bytes capture.new) report.new)) }
     ensures cause { IfErr result (λ e. (e ≡ RunError.Sink) ⊎ (e ≡ RunError.NoMemory)) }
-    ensures sink { IsErrOf result RunError.Sink → LeavesRow at event words
+    ensures sink { IsErrOf result RunError.Sink → LeavesRow at event.entry words
         (standing host.old (C.bytes capture.old) report.old)
         (standing host.new (C.bytes capture.new) report.new) }
-    ensures memory { IsErrOf result RunError.NoMemory → LeavesEvent at event words
+    ensures memory { IsErrOf result RunError.NoMemory → LeavesEvent at event.entry words
         (standing host.old (C.bytes capture.old) report.old)
         (standing host.new (C.bytes capture.new) report.new) }
     ensures risen { IsErrOf result RunError.Sink → IsRisen (C.faults capture.old) (C.faults capture.new) }
@@ -147,7 +184,8 @@ fn take_event<C: PcapSink>(
     ensures later { C.faults capture.old ≤ C.faults capture.new }
     ensures ready { IsReady host.new.dhcp host.new.ip_mtu }
 {
-    report.begin(host.alloc, at, kind_of(event), host.lease)?;
+    report.begin(host.alloc, at, kind_of(event), note_for(event), host.lease)?;
+    capture_arrived(capture, at, event)?;
     let handled = host.handle(at, event, words)?;
     let captured = capture_sent(capture, at, handled.sent.as_slice());
     report.fill_last(handled.lease, handled.sent);
@@ -192,10 +230,10 @@ pub fn run<S: ScriptSource, C: PcapSink>(
     capture.global_header(PcapLinkType::Ethernet)?;
     let mut host = Host::new(alloc, config);
     for count in 0..max_events + 1 {
-        let Some(next) = reader.next(source, max_events)? else {
+        let Some(head) = reader.next(source, max_events)? else {
             return Ok(());
         };
-        let (at, event) = next;
+        let (at, event) = reader.event(head);
         let Some(drawn) = words_at(words, count) else {
             return Err(RunError::Words);
         };

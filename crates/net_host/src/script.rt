@@ -5,15 +5,18 @@ ghost use Rattle.std.specs.Io.KnownBytes.{Consumes, IsAtEnd};
 ghost use Rattle.wire_base.specs.Causes.{IsRisen};
 ghost use Rattle.host_model.specs.Script.{Arrival, kind_byte};
 ghost use Rattle.net_host.specs.Source.{Filled};
-ghost use Rattle.net_host.specs.Head.{byte_of, GivesHead};
+ghost use Rattle.net_host.specs.Head.{byte_of, rest_bytes, GivesHead, GivesRest, CutsRest};
 ghost use Rattle.net_host.specs.Reading.{EndsWith};
+ghost use Rattle.net_host.specs.declared.script.EventKind.TheVariants as kinds;
 ghost use Rattle.net_host.specs.declared.script.ReadEventError.TheVariants.{Script, Limit, Read};
 
 use crate::{ReadFault, ScriptSource};
 
 /// What an event brings.
 #[derive(Clone, Copy, Debug, PartialEq, Eq)]
-pub enum ScriptEvent {
+pub enum ScriptEvent<'a> {
+    /// A frame arrived, of at most 65535 bytes.
+    Frame(&'a [u8]),
     /// Time passed.
     Tick,
     /// The DHCP client begins anew, without a lease.
@@ -42,9 +45,10 @@ impl From<ReadFault> for ReadEventError {
     }
 }
 
-/// The kinds of events that this host takes.
+/// The kinds of events.
 #[derive(Clone, Copy, Debug, PartialEq, Eq)]
-pub(crate) enum EventKind {
+pub enum EventKind {
+    Frame,
     Tick,
     Reset,
 }
@@ -52,9 +56,9 @@ pub(crate) enum EventKind {
 /// How many bytes stand in front of what an event brings.
 pub(crate) const HEAD_LEN: u64 = 9;
 
-/// What stands in front of what an event brings.
+/// The kind and the time of an event: what stands in front of what it brings.
 #[derive(Clone, Copy, Debug, PartialEq, Eq)]
-pub(crate) struct Head {
+pub struct EventHead {
     pub kind: EventKind,
     /// The time of the event.
     pub micros: u64,
@@ -84,6 +88,7 @@ fn kind_named(byte: u8) -> Option<EventKind>
     ensures refuses { IfNone result ((arrival : Arrival) → byte ≡ kind_byte arrival → ⊥) }
 {
     match byte {
+        1 => Some(EventKind::Frame),
         2 => Some(EventKind::Tick),
         4 => Some(EventKind::Reset),
         _ => None,
@@ -97,7 +102,7 @@ pub(crate) fn read_head<S: ScriptSource>(
     last_micros: u64,
     offset: u64,
     is_full: bool,
-) -> Result<Option<Head>, ReadEventError>
+) -> Result<Option<EventHead>, ReadEventError>
     ensures found { IfOk result (λ found. IfSome found (λ head.
         (is_full ≡ false) × GivesHead last_micros (S.left source.old) (S.left source.new) head)) }
     ensures ended { IfOk result (λ found. IfNone found (
@@ -129,5 +134,71 @@ pub(crate) fn read_head<S: ScriptSource>(
     if micros < last_micros || micros >= TIME_LIMIT {
         return Err(ReadEventError::Script(offset));
     }
-    Ok(Some(Head { kind, micros }))
+    Ok(Some(EventHead { kind, micros }))
+}
+
+/// The most bytes of a frame.
+pub(crate) const FRAME_LEN: usize = 65_535;
+
+/// Reads a frame and the length in front of it. The frame goes to the front of `into`; answers its length. `offset` is the
+/// place of the event's first byte on the script.
+fn read_frame<S: ScriptSource>(
+    source: &mut S,
+    offset: u64,
+    into: &mut [u8],
+) -> Result<usize, ReadEventError>
+    requires room { length into.old ≡ 65535 }
+    ensures found { IfOk result (λ len.
+        GivesRest kinds.Frame (S.left source.old) (S.left source.new) into.new len) }
+    ensures err { IfErr result (λ e. CutsRest e kinds.Frame (S.left source.old) (S.left source.new)) }
+    ensures script { IfErr result (λ e. (o : ℕ) → e ≡ Script o → o ≡ offset) }
+    ensures read { IsErrOf result Read → IsRisen (S.faults source.old) (S.faults source.new) }
+    ensures quiet { (IsErrOf result Read → ⊥) → S.faults source.new ≡ S.faults source.old }
+    ensures later { S.faults source.old ≤ S.faults source.new }
+{
+    let mut len = [0u8; 2];
+    if !fill(source, &mut len)? {
+        return Err(ReadEventError::Script(offset));
+    }
+    let len = usize::from(u16::from_be_bytes(len));
+    if !fill(source, &mut into[..len])? {
+        return Err(ReadEventError::Script(offset));
+    }
+    Ok(len)
+}
+
+/// Reads what stands behind the head of an event. A frame goes to the front of `into`; answers how long it is.
+pub(crate) fn read_rest<S: ScriptSource>(
+    source: &mut S,
+    kind: EventKind,
+    offset: u64,
+    into: &mut [u8],
+) -> Result<usize, ReadEventError>
+    requires room { length into.old ≡ 65535 }
+    ensures found { IfOk result (λ len.
+        GivesRest kind (S.left source.old) (S.left source.new) into.new len) }
+    ensures err { IfErr result (λ e. CutsRest e kind (S.left source.old) (S.left source.new)) }
+    ensures script { IfErr result (λ e. (o : ℕ) → e ≡ Script o → o ≡ offset) }
+    ensures read { IsErrOf result Read → IsRisen (S.faults source.old) (S.faults source.new) }
+    ensures quiet { (IsErrOf result Read → ⊥) → S.faults source.new ≡ S.faults source.old }
+    ensures later { S.faults source.old ≤ S.faults source.new }
+{
+    match kind {
+        EventKind::Frame => read_frame(source, offset, into),
+        EventKind::Tick => Ok(0),
+        EventKind::Reset => Ok(0),
+    }
+}
+
+/// How many bytes stand behind the head of an event, with so many of a frame.
+pub(crate) fn rest_len(kind: EventKind, frame_len: usize) -> u64
+    requires { frame_len ≤ 65535 }
+    ensures value { (frame : List ℕ) → length frame ≡ frame_len → result ≡ length (rest_bytes kind frame) }
+    ensures within { result ≤ 65537 }
+{
+    match kind {
+        EventKind::Frame => frame_len as u64 + 2,
+        EventKind::Tick => 0,
+        EventKind::Reset => 0,
+    }
 }

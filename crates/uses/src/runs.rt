@@ -12,7 +12,7 @@ pub fn first_time(alloc: Global, script: Vec<u8>) -> Result<Option<Instant>, Run
     let mut reader = EventReader::new(alloc)?;
     let mut source = SureSource::new(script);
     match reader.next(&mut source, 10_000)? {
-        Some((at, _)) => Ok(Some(at)),
+        Some(head) => Ok(Some(reader.event(head).0)),
         None => Ok(None),
     }
 }

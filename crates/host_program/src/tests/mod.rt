@@ -1,4 +1,5 @@
 //! Whole runs, against bytes and texts from outside.
+mod frames;
 mod outside;
 mod plain;
 

@@ -9,6 +9,7 @@ use Rattle.net_host.specs.ReaderState.{ReaderState}
 use Rattle.net_host.specs.Run.{task_of, Leaves}
 use Rattle.net_host.proofs.CompleteLemmas.{completes}
 use Rattle.net_host.proofs.ProgressLemmas.{starts, goes_on, ran_out}
+use Rattle.net_host.proofs.ReadingLemmas.{given_event}
 use Rattle.net_host.proofs.RefusedLemmas.{nothing_run, header_leaves, row_leaves, event_leaves}
 use Rattle.net_host.proofs.StoppedLemmas.{reading_leaves, reading_cause}
 use Rattle.net_host.proofs.WordLemmas.{few_words}
@@ -46,39 +47,39 @@ loop-count-init g c =
       ready = c.new-host.ensures.ready;
     })
 
-pub returns-in_err-next-clause-leaves : goal.returns-in_err-next-clause-leaves
-returns-in_err-next-clause-leaves g c =
-    let refused = err_from_is_err_and c.from_residual-in_err-next.result c.from_residual-in_err-next.ensures.1 in
+pub returns-in_err-head-clause-leaves : goal.returns-in_err-head-clause-leaves
+returns-in_err-head-clause-leaves g c =
+    let refused = err_from_is_err_and c.from_residual-in_err-head.result c.from_residual-in_err-head.ensures.1 in
     let now = c.loop-count in
     rw (refused.1, refused.2)
     (reading_leaves (task_of c.args.config.now c.args.words.now c.args.max_events)
     (outside_of g.S.ScriptSource g.C.ByteSink c.args.source.now c.args.capture.now) (outside_of g.S.ScriptSource g.C.ByteSink now.source now.capture)
-    (outside_of g.S.ScriptSource g.C.ByteSink c.next.new.source now.capture) now.reader c.next.new.self now.host now.report c.in_err-next.field-0.0
-    now.invariant.progress c.in_err-next.ensures.err
-    (record { script = c.in_err-next.ensures.script; limit = λ is. c.in_err-next.ensures.limit (ap (λ e. Err e) is) }) refl)
+    (outside_of g.S.ScriptSource g.C.ByteSink c.next.new.source now.capture) now.reader c.next.new.self now.host now.report c.in_err-head.field-0.0
+    now.invariant.progress c.in_err-head.ensures.err
+    (record { script = c.in_err-head.ensures.script; limit = λ is. c.in_err-head.ensures.limit (ap (λ e. Err e) is) }) refl)
 
-pub returns-in_err-next-clause-cause : goal.returns-in_err-next-clause-cause
-returns-in_err-next-clause-cause g c =
-    let refused = err_from_is_err_and c.from_residual-in_err-next.result c.from_residual-in_err-next.ensures.1 in
+pub returns-in_err-head-clause-cause : goal.returns-in_err-head-clause-cause
+returns-in_err-head-clause-cause g c =
+    let refused = err_from_is_err_and c.from_residual-in_err-head.result c.from_residual-in_err-head.ensures.1 in
     let now = c.loop-count in
     rw (refused.1, refused.2)
     (reading_cause (task_of c.args.config.now c.args.words.now c.args.max_events)
     (outside_of g.S.ScriptSource g.C.ByteSink c.args.source.now c.args.capture.now) (outside_of g.S.ScriptSource g.C.ByteSink now.source now.capture)
-    (outside_of g.S.ScriptSource g.C.ByteSink c.next.new.source now.capture) now.reader now.host now.report c.in_err-next.field-0.0
-    now.invariant.progress (record { script = c.in_err-next.ensures.script; limit = λ is. c.in_err-next.ensures.limit (ap (λ e. Err e) is) })
+    (outside_of g.S.ScriptSource g.C.ByteSink c.next.new.source now.capture) now.reader now.host now.report c.in_err-head.field-0.0
+    now.invariant.progress (record { script = c.in_err-head.ensures.script; limit = λ is. c.in_err-head.ensures.limit (ap (λ e. Err e) is) })
     (record {
       quiet = now.invariant.quiet;
       capture = refl;
-      source = λ other. c.in_err-next.ensures.quiet (λ is. other (cc));
-      risen = λ is. c.in_err-next.ensures.read (ap (λ e. Err e) is);
+      source = λ other. c.in_err-head.ensures.quiet (λ is. other (cc));
+      risen = λ is. c.in_err-head.ensures.read (ap (λ e. Err e) is);
     }))
 
-pub returns-in_err-next-clause-complete : goal.returns-in_err-next-clause-complete
-returns-in_err-next-clause-complete g c =
+pub returns-in_err-head-clause-complete : goal.returns-in_err-head-clause-complete
+returns-in_err-head-clause-complete g c =
     completes (task_of c.args.config.now c.args.words.now c.args.max_events)
     (outside_of g.S.ScriptSource g.C.ByteSink c.args.source.now c.args.capture.now)
-    (outside_of g.S.ScriptSource g.C.ByteSink c.next.new.source c.loop-count.capture) c.from_residual-in_err-next.result
-    (returns-in_err-next-clause-cause g c)
+    (outside_of g.S.ScriptSource g.C.ByteSink c.next.new.source c.loop-count.capture) c.from_residual-in_err-head.result
+    (returns-in_err-head-clause-cause g c)
 
 pub returns-in_default-words_at-clause-leaves : goal.returns-in_default-words_at-clause-leaves
 returns-in_default-words_at-clause-leaves g c =
@@ -86,7 +87,9 @@ returns-in_default-words_at-clause-leaves g c =
     ran_out (task_of c.args.config.now c.args.words.now c.args.max_events)
     (outside_of g.S.ScriptSource g.C.ByteSink c.args.source.now c.args.capture.now) (outside_of g.S.ScriptSource g.C.ByteSink now.source now.capture)
     (outside_of g.S.ScriptSource g.C.ByteSink c.next.new.source now.capture) now.reader c.next.new.self now.host now.report
-    c.in-Some.next.0 c.in-Some.next.1 now.invariant.progress (rw c.in-Some.is at c.in_ok-next.ensures.found) refl
+    c.event-at.result.0 c.event-at.result.1 now.invariant.progress
+    (given_event c.args.max_events now.reader c.next.new.self (g.S.ScriptSource.left now.source) (g.S.ScriptSource.left c.next.new.source)
+    c.in-Some.head c.event-at.result.0 c.event-at.result.1 (rw c.in-Some.is at c.in_ok-head.ensures.found) c.event-at.ensures.event c.event-at.ensures.time) refl
     (rw now.invariant.counted c.in_default-words_at.ensures.refuses)
 
 pub returns-in_default-words_at-clause-cause : goal.returns-in_default-words_at-clause-cause
@@ -95,7 +98,7 @@ returns-in_default-words_at-clause-cause g c =
       few_words (task_of c.args.config.now c.args.words.now c.args.max_events)
           (outside_of g.S.ScriptSource g.C.ByteSink c.args.source.now c.args.capture.now)
           (outside_of g.S.ScriptSource g.C.ByteSink c.next.new.source now.capture) now.report (returns-in_default-words_at-clause-leaves g c),
-      record { source = c.in_ok-next.ensures.quiet (λ is. cc) ∙ now.invariant.quiet.source; capture = now.invariant.quiet.capture },
+      record { source = c.in_ok-head.ensures.quiet (λ is. cc) ∙ now.invariant.quiet.source; capture = now.invariant.quiet.capture },
     )
 
 pub returns-in_default-words_at-clause-complete : goal.returns-in_default-words_at-clause-complete
@@ -113,18 +116,19 @@ returns-in_err-take_event-clause-leaves g c =
     let before = outside_of g.S.ScriptSource g.C.ByteSink c.args.source.now c.args.capture.now in
     let here = outside_of g.S.ScriptSource g.C.ByteSink now.source now.capture in
     let after = outside_of g.S.ScriptSource g.C.ByteSink c.next.new.source c.take_event.new.capture in
-    let gives = rw c.in-Some.is at c.in_ok-next.ensures.found in
+    let gives = given_event c.args.max_events now.reader c.next.new.self (g.S.ScriptSource.left now.source) (g.S.ScriptSource.left c.next.new.source)
+    c.in-Some.head c.event-at.result.0 c.event-at.result.1 (rw c.in-Some.is at c.in_ok-head.ensures.found) c.event-at.ensures.event c.event-at.ensures.time in
     let word = c.in-Some-words_at.ensures.found.0 ∙ ap (words_at task.words) (sym now.invariant.counted) in
     let P : RunError → Type 0 = Leaves task before after c.take_event.new.report in
     rw (refused.1, refused.2)
     (⊎_elim
     (λ (is_sink : error ≡ Sink). subst P (sym is_sink)
     (row_leaves task before here after now.reader c.next.new.self now.host c.take_event.new.host now.report c.take_event.new.report
-    c.in-Some.next.0 c.in-Some.next.1 c.in-Some-words_at.drawn now.invariant.progress c.new-host.ensures.runs word gives
+    c.event-at.result.0 c.event-at.result.1 c.in-Some-words_at.drawn now.invariant.progress c.new-host.ensures.runs word gives
     (c.in_err-take_event.ensures.sink (ap (λ e. Err e) is_sink))))
     (λ (is_memory : error ≡ NoMemory). subst P (sym is_memory)
     (event_leaves task before here after now.reader c.next.new.self now.host c.take_event.new.host now.report c.take_event.new.report
-    c.in-Some.next.0 c.in-Some.next.1 c.in-Some-words_at.drawn now.invariant.progress c.new-host.ensures.runs word gives
+    c.event-at.result.0 c.event-at.result.1 c.in-Some-words_at.drawn now.invariant.progress c.new-host.ensures.runs word gives
     (c.in_err-take_event.ensures.memory (ap (λ e. Err e) is_memory))))
     c.in_err-take_event.ensures.cause)
 
@@ -135,21 +139,22 @@ loop-count-preserved g c =
     let before = outside_of g.S.ScriptSource g.C.ByteSink c.args.source.now c.args.capture.now in
     let here = outside_of g.S.ScriptSource g.C.ByteSink now.source now.capture in
     let after = outside_of g.S.ScriptSource g.C.ByteSink c.next.new.source c.take_event.new.capture in
-    let gives = rw c.in-Some.is at c.in_ok-next.ensures.found in
+    let gives = given_event c.args.max_events now.reader c.next.new.self (g.S.ScriptSource.left now.source) (g.S.ScriptSource.left c.next.new.source)
+    c.in-Some.head c.event-at.result.0 c.event-at.result.1 (rw c.in-Some.is at c.in_ok-head.ensures.found) c.event-at.ensures.event c.event-at.ensures.time in
     let found = c.in-Some-words_at.ensures.found in
     let word = found.0 ∙ ap (words_at task.words) (sym now.invariant.counted) in
-    let more = ap (λ (s : ReaderState). s.events) gives.moved in
+    let more = ap (λ (s : ReaderState). s.events) gives.gives.moved in
     record {
       progress = goes_on task before here after now.reader c.next.new.self now.host c.take_event.new.host now.report c.take_event.new.report
-          c.in-Some.next.0 c.in-Some.next.1 c.in-Some-words_at.drawn now.invariant.progress c.new-host.ensures.runs word
+          c.event-at.result.0 c.event-at.result.1 c.in-Some-words_at.drawn now.invariant.progress c.new-host.ensures.runs word
           (omega (arith, found.1, now.invariant.counted)) gives c.in_ok-take_event.ensures.ok;
       quiet = record {
-        source = c.in_ok-next.ensures.quiet (λ is. cc) ∙ now.invariant.quiet.source;
+        source = c.in_ok-head.ensures.quiet (λ is. cc) ∙ now.invariant.quiet.source;
         capture = c.in_ok-take_event.ensures.quiet (λ is. cc) ∙ now.invariant.quiet.capture;
       };
       counted = omega (arith, more, now.invariant.counted);
-      within = omega (arith, gives.within, now.invariant.counted);
-      goes_on = ap (λ (s : ReaderState). s.is_through) gives.moved;
-      limit = rw gives.moved refl;
+      within = omega (arith, gives.gives.within, now.invariant.counted);
+      goes_on = ap (λ (s : ReaderState). s.is_through) gives.gives.moved;
+      limit = rw gives.gives.moved refl;
       ready = c.take_event.ensures.ready;
     }

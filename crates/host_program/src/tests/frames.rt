@@ -1,0 +1,112 @@
+//! Frames that arrive: their notes, and their records in front of what is sent.
+use super::plain::{discover_frame, packet_record};
+use super::{FILE_HEADER, run_program};
+use std::alloc::{AllocError, Global};
+use std::test::Fail;
+
+/// The event of a frame at so many seconds: the kind 1, the time, the length, and the frame.
+fn frame_event(alloc: Global, secs: u64, frame: &[u8]) -> Result<Vec<u8>, AllocError> {
+    let mut event = Vec::from_slice(alloc, b"\x01")?;
+    event.extend_from_slice(&secs.saturating_mul(1_000_000).to_be_bytes())?;
+    let len = (frame.len() % 0x1_0000) as u16;
+    event.extend_from_slice(&len.to_be_bytes())?;
+    event.extend_from_slice(frame)?;
+    Ok(event)
+}
+
+/// A frame to 02:02:02:02:02:02 from 02:00:00:00:00:01 with this ether type, bytes behind it, and zeros up to `len`.
+fn frame_of(
+    alloc: Global,
+    ether_type: u16,
+    bytes: &[u8],
+    len: usize,
+) -> Result<Vec<u8>, AllocError> {
+    let mut frame = Vec::from_slice(alloc, b"\x02\x02\x02\x02\x02\x02\x02\x00\x00\x00\x00\x01")?;
+    frame.extend_from_slice(&ether_type.to_be_bytes())?;
+    frame.extend_from_slice(bytes)?;
+    let missing = len.saturating_sub(frame.len());
+    for _ in 0..missing {
+        frame.push(0)?;
+    }
+    Ok(frame)
+}
+
+#[test]
+fn frames_are_noted_and_captured_before_what_is_sent(rt: HostRuntime) -> Result<(), Fail> {
+    let alloc = rt.alloc();
+    // IPv4 of 302 bytes with UDP of 282, and 20 bytes of padding; four tags; a MACsec part that is cut, with an IPv4 header
+    // of total length 44 and two bytes of UDP; an ARP packet; no bytes.
+    let padded =
+        b"\x45\x00\x01\x2e\x00\x00\x40\x00\x40\x11\x00\x00\xc0\xa8\x01\x01\xff\xff\xff\xff\x00\x43\x00\x44\x01\x1a";
+    let tags = b"\x00\x01\x81\x00\x00\x02\x81\x00\x00\x03\x81\x00\x00\x04\x08\x00";
+    let macsec = b"\x00\x2e\x00\x00\x00\x00\x08\x00\x45\x00\x00\x2c\x00\x00\x00\x00\x40\x11";
+    let arp = b"\x00\x01\x08\x00\x06\x04\x00\x02";
+    let cases: [(u16, &[u8], usize, &[u8]); 4] = [
+        (
+            0x0800,
+            padded,
+            336,
+            b"frame 336 exts=0 net=ipv4 transport=udp window=42-316 incomplete=0 fragmented=0 stop=none",
+        ),
+        (
+            0x8100,
+            tags,
+            30,
+            b"frame 30 exts=3 net=none transport=none window=26-30 incomplete=0 fragmented=0 stop=none",
+        ),
+        (
+            0x88e5,
+            macsec,
+            44,
+            b"frame 44 exts=1 net=ipv4 transport=none window=42-44 incomplete=1 fragmented=0 stop=udp",
+        ),
+        (
+            0x0806,
+            arp,
+            42,
+            b"frame 42 exts=0 net=arp transport=none window=14-42 incomplete=0 fragmented=0 stop=none",
+        ),
+    ];
+    let discover = discover_frame(alloc, 0x0004_2021, 0x5855)?;
+    for (ether_type, bytes, len, line) in cases {
+        let frame = frame_of(alloc, ether_type, bytes, len)?;
+        assert_eq!(rt; frame.len(), len);
+        let script = frame_event(alloc, 3, frame.as_slice())?;
+        let ran = run_program(alloc, &["run", "020202020202", "1", "1"], script.as_slice())?;
+        assert_eq!(rt; ran.status, 0);
+        let mut text = Vec::from_slice(alloc, b"0 3.000000 ")?;
+        text.extend_from_slice(line)?;
+        text.extend_from_slice(b" lease none\n  sent dhcp 304\ndone\n")?;
+        assert_eq!(rt; ran.printed.as_slice(), text.as_slice());
+        let mut capture = Vec::from_slice(alloc, FILE_HEADER)?;
+        capture.extend_from_slice(packet_record(alloc, 3, frame.as_slice())?.as_slice())?;
+        capture.extend_from_slice(packet_record(alloc, 3, discover.as_slice())?.as_slice())?;
+        assert_eq!(rt; ran.captured.as_slice(), capture.as_slice());
+    }
+    Ok(())
+}
+
+#[test]
+fn frames_that_are_cut_off_break_a_script(rt: HostRuntime) -> Result<(), Fail> {
+    let alloc = rt.alloc();
+    let whole = frame_event(alloc, 0, b"\x07\x08\x09")?;
+    let empty = frame_event(alloc, 0, b"")?;
+    let ran = run_program(alloc, &["run", "020202020202", "1", "1"], empty.as_slice())?;
+    let text =
+        b"0 0.000000 frame 0 exts=0 net=none transport=none window=0-0 incomplete=0 fragmented=0 stop=ethernet lease none
+  sent dhcp 304
+done
+";
+    assert_eq!(rt; ran.printed.as_slice(), text.as_slice());
+    for cut in [9, 10, 11, 13] {
+        let ran = run_program(
+            alloc,
+            &["run", "020202020202", "1", "1"],
+            &whole.as_slice()[..cut],
+        )?;
+        assert_eq!(rt; ran.status, 2);
+        assert_eq!(rt; ran.printed.as_slice(), b"script error at 0\n".as_slice());
+        assert_eq!(rt; ran.captured.as_slice(), FILE_HEADER);
+    }
+    Ok(())
+}
