@@ -1,13 +1,12 @@
 -- The bytes of an authentication header, and what they read as.
-use Rattle.std.proofs.Common.{◌≡◌, ℕ, ◌+◌, ◌-◌, ◌*◌, ◌/◌, ◌%◌, ◌<◌, ◌≤◌, List, [], ◌∷◌, ◌++◌, length, take, drop, slice_index, slice_range, refl, ◌∙◌, ap, sym, append_assoc, arith, length-append, length-take, length-drop}
-use Rattle.std.specs.List.{All}
-use Rattle.std.specs.Int.{to_be_bytes, from_be_bytes, w32}
+use Rattle.std.proofs.Common.{◌≡◌, ℕ, ◌+◌, ◌-◌, ◌*◌, ◌/◌, ◌%◌, List, [], ◌∷◌, ◌++◌, length, drop, slice_index, slice_range, ◌∙◌, ap, sym, arith, length-append, length-take, length-drop}
+use Rattle.std.specs.Int.{to_be_bytes, w32}
 use Rattle.std.proofs.Math.Seq.{take-append_seam}
 use Rattle.std.proofs.lemmas.List.Folds.{drop_split}
 use Rattle.std.proofs.lemmas.Nat.{from_be_bytes-to_be_bytes_4}
-use Rattle.net_wire.specs.Protocol.{ip_protocol_number, ip_protocol_of}
+use Rattle.net_wire.specs.Protocol.{ip_protocol_number}
 use Rattle.net_wire.proofs.ProtocolLemmas.{each_number_is_its_protocol}
-use Rattle.ipsec_wire.specs.Ah.{Header, header_len, header_of, header_bytes, IsWhole, IsWritable, IsReadBack, ClearsReserved, cleared}
+use Rattle.ipsec_wire.specs.Ah.{Header, header_len, header_of, header_bytes, IsWhole, IsWritable, IsReadBack, ClearsReserved}
 use Rattle.ipsec_wire.proofs.ByteLemmas.{to_be_bytes-be32_at, take-two, regrouped}
 
 pub length-header_bytes : (h : Header) → length (header_bytes h) ≡ 12 + length h.integrity_check_value

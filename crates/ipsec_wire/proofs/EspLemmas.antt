@@ -1,6 +1,5 @@
 -- The bytes of an ESP header, and what they read as.
-use Rattle.std.proofs.Common.{◌≡◌, ℕ, ◌^◌, ◌<◌, ◌≤◌, List, ◌++◌, length, take, drop, slice_range, refl, ◌∙◌, ap, sym, append_assoc, arith}
-use Rattle.std.specs.List.{All}
+use Rattle.std.proofs.Common.{◌≡◌, ℕ, ◌^◌, ◌<◌, ◌≤◌, List, ◌++◌, length, drop, slice_range, ◌∙◌, ap, sym, append_assoc, arith}
 use Rattle.std.specs.Int.{to_be_bytes, w32}
 use Rattle.std.proofs.lemmas.List.Folds.{drop_split}
 use Rattle.std.proofs.lemmas.Nat.{from_be_bytes-to_be_bytes_4}

@@ -1,6 +1,5 @@
 -- What the types of `ah` stand for.
-use Rattle.std.specs.Prelude.{ℕ, List, ◌++◌, take, drop}
-use Rattle.ipsec_wire.specs.Ah.{Header, header_len}
+use Rattle.ipsec_wire.specs.Ah.{Header}
 use Rattle.ipsec_wire.specs.declared.ah.Repr.{Repr}
 
 -- the header without where its check value lies

@@ -1,5 +1,5 @@
 -- What the fault rule does to a frame, and its closed examples by computing.
-use Rattle.std.proofs.Common.{◌≡◌, ◌≢◌, ℕ, zero, suc, ◌+◌, ◌-◌, ◌%◌, ◌^◌, ◌<◌, ◌==◌, ◌||◌, nat_lt, ℤ, Bool, true, false, cond, ◌⊎◌, inl, inr, List, length, Some, None, refl, sym, subst, arith, slice_index, slice_set, bit_xor}
+use Rattle.std.proofs.Common.{◌≡◌, ℕ, zero, suc, ◌+◌, ◌-◌, ◌%◌, ◌^◌, ◌<◌, ◌==◌, ◌||◌, nat_lt, ℤ, Bool, true, false, cond, ◌⊎◌, inl, inr, List, length, Some, refl, subst, arith, slice_index, bit_xor}
 use Rattle.std.specs.Int.{bit_at}
 use Rattle.std.proofs.lemmas.List.{get_or-set_same, get_or-set_other, length-set}
 use Rattle.std.proofs.lemmas.Nat.Bits.{bit_at_xor, bit_at-lt, bit_at-pow_same, bit_at-pow_other}

@@ -1,5 +1,5 @@
 -- What the fault rule can do to a frame, and closed examples of the rule.
-use Rattle.std.specs.Prelude.{◌≡◌, ◌≢◌, ℕ, ◌+◌, ◌<◌, ◌⊎◌, List, [], ◌∷◌, length, Some, None, ℤ, pos, slice_index, replicate}
+use Rattle.std.specs.Prelude.{◌≡◌, ◌≢◌, ℕ, ◌+◌, ◌<◌, ◌⊎◌, List, length, Some, ℤ, pos, slice_index}
 use Rattle.std.specs.Int.{bit_at}
 use Rattle.phy_layers.specs.declared.capabilities.TracerDirection.{TracerDirection}
 use Rattle.phy_layers.specs.declared.capabilities.TracerDirection.TheVariants.{RX, TX}

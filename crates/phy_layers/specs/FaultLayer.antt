@@ -1,5 +1,5 @@
 -- What a layer that disturbs a link leaves: its own part, and what its device was handed.
-use Rattle.std.specs.Prelude.{◌≡◌, ◌⊎◌, ℕ, ◌+◌, ◌-◌, ◌^◌, List, length, min, Option, Some, None, ℤ, pos}
+use Rattle.std.specs.Prelude.{◌≡◌, ◌⊎◌, ℕ, ◌+◌, ◌-◌, ◌^◌, List, length, min, Some, None, ℤ, pos}
 use Rattle.phy_layers.specs.declared.capabilities.DeviceCapabilities.{DeviceCapabilities}
 use Rattle.phy_layers.specs.declared.capabilities.PacketMeta.{PacketMeta}
 use Rattle.phy_layers.specs.declared.capabilities.TracerDirection.{TracerDirection}
