@@ -26,7 +26,7 @@ pub record AreHeaders (ethernet ip udp payload : List ℕ) : Type 0 where
   pub protocol : get_or ip 9 0 ≡ 17
   pub datagram_len : be16_at udp 4 ≡ length payload + 8
 
-ethernet_accepted : (bytes : List ℕ) → 14 ≤ length bytes → refusal (packet_grammar.form_of Ethernet2) bytes ≡ None
+pub ethernet_accepted : (bytes : List ℕ) → 14 ≤ length bytes → refusal (packet_grammar.form_of Ethernet2) bytes ≡ None
 ethernet_accepted bytes room =
     let enough : nat_lt (length bytes) 14 ≡ false = grind (arith, nat_tests) in
     rw enough refl
@@ -110,7 +110,7 @@ module _ (ethernet ip udp payload : List ℕ) (headers : AreHeaders ethernet ip 
   udp_layout : IsLayoutFrom packet_grammar frame (Some (turn_of Udp)) 34 (length frame) (udp_place (length frame) ∷ []) None
   udp_layout =
       let header = front_of udp payload 8 headers.udp_len in
-      one_part packet_grammar frame (turn_of Udp) 34 42 (udp ++ payload) None [] None 8
+      one_part packet_grammar frame (turn_of Udp) 34 42 (length frame) (udp ++ payload) None [] None 8
       udp_window (udp_accepted (udp ++ payload) (omega (arith, length-append udp payload, headers.udp_len))) refl refl
       (rw header udp_ends) refl refl
 
@@ -120,7 +120,7 @@ module _ (ethernet ip udp payload : List ℕ) (headers : AreHeaders ethernet ip 
       let header = front_of ip (udp ++ payload) 20 headers.ip_len in
       let room : 20 ≤ length (ip ++ (udp ++ payload)) = omega (arith, length-append ip (udp ++ payload), headers.ip_len) in
       let first : get_or (ip ++ (udp ++ payload)) 0 0 ≡ 0x45 = get_or_append_left ip (udp ++ payload) 0 0 (omega (arith, headers.ip_len)) ∙ headers.version in
-      one_part packet_grammar frame (turn_of Ip) 14 34 (ip ++ (udp ++ payload)) (Some (turn_of Udp)) (udp_place (length frame) ∷ []) None 20
+      one_part packet_grammar frame (turn_of Ip) 14 34 (length frame) (ip ++ (udp ++ payload)) (Some (turn_of Udp)) (udp_place (length frame) ∷ []) None 20
       ip_window (ip_accepted (ip ++ (udp ++ payload)) room first) (ip_header_len (ip ++ (udp ++ payload)) first) refl
       (rw header ip_ends) (rw header udp_named) udp_layout
 
@@ -128,5 +128,5 @@ module _ (ethernet ip udp payload : List ℕ) (headers : AreHeaders ethernet ip 
   layout =
       let header = front_of ethernet (ip ++ (udp ++ payload)) 14 headers.ethernet_len in
       let room : 14 ≤ length frame = omega (arith, frame_len) in
-      one_part packet_grammar frame (turn_of Ethernet2) 0 14 frame (Some (turn_of Ip)) (ipv4_place (length frame) ∷ udp_place (length frame) ∷ []) None 14
+      one_part packet_grammar frame (turn_of Ethernet2) 0 14 (length frame) frame (Some (turn_of Ip)) (ipv4_place (length frame) ∷ udp_place (length frame) ∷ []) None 14
       (rest_of [] frame 0 refl) (ethernet_accepted frame room) refl refl refl (rw header ip_named) ip_layout

@@ -5,22 +5,36 @@ use Rattle.std.proofs.lemmas.Nat.{from_be_bytes-to_be_bytes_2}
 use Rattle.wire_base.specs.Bytes.{be16_at}
 use Rattle.net_wire.specs.Datagram.{udp_bytes}
 use Rattle.ether_link.specs.Ethernet2.{ethernet2_header}
+use Rattle.ether_link.specs.declared.link.ethernet2.Ethernet2Header.{Ethernet2Header}
 use Rattle.ether_ip.specs.Ipv4.{ipv4_header, is_ipv4_fragment}
 use Rattle.ether_ip.specs.Udp.{udp_header}
 use Rattle.ether_ip.specs.declared.ip.ipv4.Ipv4Header.{Ipv4Header}
 use Rattle.ether_ip.specs.declared.transport.udp.UdpHeader.{UdpHeader}
 use Rattle.frame_laws.proofs.PartLemmas.{by_four, by_six}
 
-pub record EthernetFacts (to from : List ℕ) : Type 0 where
-  pub len : length (to ++ from ++ to_be_bytes w16 0x0800) ≡ 14
-  pub ether_type : be16_at (to ++ from ++ to_be_bytes w16 0x0800) 12 ≡ 0x0800
-  pub fields : ethernet2_header (to ++ from ++ to_be_bytes w16 0x0800) ≡ record { source = from; destination = to; ether_type = record { 0 = 0x0800 } }
+-- the fields of a frame's header, by its ether type
+abbrev two_stations : List ℕ → List ℕ → ℕ → Ethernet2Header
+two_stations to from number = record { source = from; destination = to; ether_type = record { 0 = number } }
 
-pub ethernet_facts : (to from : List ℕ) → length to ≡ 6 → length from ≡ 6 → EthernetFacts to from
-ethernet_facts to from six six_too =
-    by_six (λ bytes. EthernetFacts bytes from)
-    (λ a b c d e f. by_six (λ bytes. EthernetFacts (a ∷ b ∷ c ∷ d ∷ e ∷ f ∷ []) bytes)
-    (λ g h i j k l. record { len = refl; ether_type = refl; fields = refl }) from six_too) to six
+pub record EthernetFacts (to from : List ℕ) (number : ℕ) : Type 0 where
+  pub len : length (to ++ from ++ to_be_bytes w16 number) ≡ 14
+  pub ether_type : be16_at (to ++ from ++ to_be_bytes w16 number) 12 ≡ number
+  pub fields : ethernet2_header (to ++ from ++ to_be_bytes w16 number) ≡ two_stations to from number
+
+module _ (number : ℕ) (fits : number < 2 ^ 16) where
+  ethernet_of : (a b c d e f g h i j k l : ℕ)
+      → EthernetFacts (a ∷ b ∷ c ∷ d ∷ e ∷ f ∷ []) (g ∷ h ∷ i ∷ j ∷ k ∷ l ∷ []) number
+  ethernet_of a b c d e f g h i j k l =
+      let to = a ∷ b ∷ c ∷ d ∷ e ∷ f ∷ [] in
+      let from = g ∷ h ∷ i ∷ j ∷ k ∷ l ∷ [] in
+      let number_is : be16_at (to ++ from ++ to_be_bytes w16 number) 12 ≡ number = from_be_bytes-to_be_bytes_2 number fits in
+      record { len = refl; ether_type = number_is; fields = ap (two_stations to from) number_is }
+
+  pub ethernet_facts : (to from : List ℕ) → length to ≡ 6 → length from ≡ 6 → EthernetFacts to from number
+  ethernet_facts to from six six_too =
+      by_six (λ bytes. EthernetFacts bytes from number)
+      (λ a b c d e f. by_six (λ bytes. EthernetFacts (a ∷ b ∷ c ∷ d ∷ e ∷ f ∷ []) bytes number)
+      (λ g h i j k l. ethernet_of a b c d e f g h i j k l) from six_too) to six
 
 -- the IPv4 header, and its fields by two numbers
 abbrev pub four_bytes : List ℕ → List ℕ → ℕ → ℕ → ℕ → List ℕ

@@ -27,20 +27,20 @@ between_of before bytes rest start end starts ends =
     let dropped : drop start (before ++ (bytes ++ rest)) ≡ bytes ++ rest = rw starts at moved in
     rw dropped (front_of bytes rest (end - start) (omega arith))
 
--- one part, by the window that it stands in, and those behind it
-pub one_part : {E : Type 0} (grammar : Grammar E) (frame : List ℕ) (turn : Turn) (start body : ℕ) (bytes : List ℕ) (next : Option Turn)
+-- one part in a window that reaches to the last byte, and those behind it
+pub one_part : {E : Type 0} (grammar : Grammar E) (frame : List ℕ) (turn : Turn) (start body end : ℕ) (bytes : List ℕ) (next : Option Turn)
     (places : List Place) (stop : Option (Stop E)) (len : ℕ)
     → slice_range frame start (length frame) ≡ bytes → refusal (grammar.form_of turn.kind) bytes ≡ None
     → header_len (grammar.form_of turn.kind) bytes ≡ len → start + len ≡ body
-    → window_end start (length frame) (grammar.announced turn.kind (take len bytes)) ≡ length frame
+    → window_end start (length frame) (grammar.announced turn.kind (take len bytes)) ≡ end
     → grammar.next turn (take len bytes) ≡ next
-    → IsLayoutFrom grammar frame next body (length frame) places stop
+    → IsLayoutFrom grammar frame next body end places stop
     → IsLayoutFrom grammar frame (Option.Some turn) start (length frame)
-    (record { kind = turn.kind; start = start; body = body; end = length frame } ∷ places) stop
-one_part grammar frame turn start body bytes next places stop len is accepted has_len ends window goes_on behind =
-    let place : Place = record { kind = turn.kind; start = start; body = body; end = length frame } in
+    (record { kind = turn.kind; start = start; body = body; end = end } ∷ places) stop
+one_part grammar frame turn start body end bytes next places stop len is accepted has_len ends window goes_on behind =
+    let place : Place = record { kind = turn.kind; start = start; body = body; end = end } in
     let same : place ≡ place_of grammar turn.kind bytes start (length frame) = rw (has_len, ends, window) refl in
-    let rest : IsLayoutFrom grammar frame (grammar.next turn (header grammar turn.kind bytes)) body (length frame) places stop = rw (has_len, goes_on) behind in
+    let rest : IsLayoutFrom grammar frame (grammar.next turn (header grammar turn.kind bytes)) body end places stop = rw (has_len, goes_on) behind in
     rw is (accepted, same, rest)
 
 -- lists of four and of six bytes

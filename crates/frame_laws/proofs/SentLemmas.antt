@@ -1,5 +1,5 @@
 -- The frame that carries a datagram is cut into it.
-use Rattle.std.proofs.Common.{◌≡◌, ℕ, ◌+◌, ◌^◌, ◌<◌, List, ◌++◌, length, refl, sym, ap, ◌∙◌, subst, arith}
+use Rattle.std.proofs.Common.{◌≡◌, ℕ, lit<, ◌+◌, ◌^◌, ◌<◌, List, ◌++◌, length, refl, sym, ap, ◌∙◌, subst, arith}
 use Rattle.std.specs.Int.{to_be_bytes, w16}
 use Rattle.std.proofs.lemmas.List.{append_assoc}
 use Rattle.net_wire.specs.Datagram.{Datagram, ethernet_bytes, ipv4_bytes, udp_bytes}
@@ -39,8 +39,8 @@ module _ (from to : EthernetAddress) (hop_limit : ℕ) (datagram : Datagram) (fi
   abbrev udp : List ℕ
   udp = udp_bytes datagram.source_port datagram.destination_port (length datagram.payload + 8) udp_checksum
 
-  first : EthernetFacts to.0 from.0
-  first = ethernet_facts to.0 from.0 fits.stations.1 fits.stations.0
+  first : EthernetFacts to.0 from.0 0x0800
+  first = ethernet_facts 0x0800 (lit< tt) to.0 from.0 fits.stations.1 fits.stations.0
 
   second : Ipv4Facts datagram.source.0 datagram.destination.0 (length datagram.payload + 28) hop_limit ip_checksum
   second = ipv4_facts (length datagram.payload + 28) hop_limit ip_checksum (omega (arith, fits.payload)) ip_word

@@ -1,1 +1,2 @@
 pub mod SentParts
+pub mod SentArp
