@@ -99,10 +99,11 @@ done
 ";
     assert_eq!(rt; ran.printed.as_slice(), text.as_slice());
     for cut in [9, 10, 11, 13] {
+        let end = whole.len().min(cut);
         let ran = run_program(
             alloc,
             &["run", "020202020202", "1", "1"],
-            &whole.as_slice()[..cut],
+            &whole.as_slice()[..end],
         )?;
         assert_eq!(rt; ran.status, 2);
         assert_eq!(rt; ran.printed.as_slice(), b"script error at 0\n".as_slice());
