@@ -54,6 +54,8 @@ fn link_extensions_have_their_numbers_and_payloads(rt: HostRuntime) -> Result<()
             assert_eq!(rt; id.value(), *want);
         }
         assert!(rt; found == headers.vlan_ids());
+        let tags = sliced.vlan().ok_or("no tag")?;
+        assert_eq!(rt; Some(tags.to_header()), headers.vlan());
         let payload = sliced.ether_payload().ok_or("no payload")?;
         assert_eq!(rt; payload.ether_type, EtherType(number));
         assert_eq!(rt;
