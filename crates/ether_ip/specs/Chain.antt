@@ -17,7 +17,8 @@ number_behind bytes number (place ∷ more) = number_behind bytes (slice_index (
 -- what the packet carries is a fragment, as far as the headers say
 abbrev pub is_fragmented : List ℕ → Bool → List Place → Bool
 is_fragmented bytes before [] = before
-is_fragmented bytes before (place ∷ more) = is_fragmented bytes (fragmented_behind place.kind before (header_at bytes place)) more
+is_fragmented bytes before (place ∷ more) =
+    is_fragmented bytes (fragmented_behind place.kind before (header_at bytes place)) more
 
 -- the refusals of a reader of extension headers
 abbrev pub chain_errors : ExtensionErrors HeaderSliceError

@@ -26,7 +26,8 @@ pub record IsCutPart (frame : List ℕ) (n : ℕ) (kept place : Place) : Type 0 
 abbrev pub AreCutParts : List ℕ → ℕ → List Place → List Place → Type 0
 AreCutParts frame n [] places = Unit {0}
 AreCutParts frame n (kept ∷ more) [] = ⊥
-AreCutParts frame n (kept ∷ more) (place ∷ places) = IsCutPart frame n kept place × AreCutParts frame n more places
+AreCutParts frame n (kept ∷ more) (place ∷ places) =
+    IsCutPart frame n kept place × AreCutParts frame n more places
 
 -- each header ends where it begins or later
 abbrev pub AreOrdered : List Place → Type 0

@@ -1,4 +1,5 @@
--- How the extension headers of an IP packet follow one another (RFC 4302, section 3.1; RFC 8200, sections 4 and 4.1).
+-- How the extension headers of an IP packet follow one another (RFC 4302, section 3.1; RFC 8200, sections 4
+-- and 4.1).
 use Rattle.std.specs.Prelude.{ℕ, ◌==◌, Bool, ◌||◌, if◌then◌else◌, List, slice_index, Option, Some, None}
 use Rattle.ether_link.specs.Form.{Form, never_refused, nothing_more, never_alone}
 use Rattle.ether_link.specs.Layout.{Grammar}
@@ -43,8 +44,10 @@ extension_form_of errors DestinationOptions = raw_ext_form (layer_of_kind Destin
 extension_form_of errors Fragment = fragment_form errors.wrong_len
 extension_form_of errors Ipv4Auth = auth_form errors.wrong_len errors.behind_ipv4
 extension_form_of errors Ipv6Auth = auth_form errors.wrong_len (λ error. errors.behind_ipv6 (extension.TheVariants.IpAuth error))
-extension_form_of errors LateHopByHop = late_form errors.wrong_len (errors.behind_ipv6 extension.TheVariants.HopByHopNotAtStart)
-extension_form_of errors no_extension = late_form errors.wrong_len (errors.behind_ipv6 extension.TheVariants.HopByHopNotAtStart)
+extension_form_of errors LateHopByHop =
+    late_form errors.wrong_len (errors.behind_ipv6 extension.TheVariants.HopByHopNotAtStart)
+extension_form_of errors no_extension =
+    late_form errors.wrong_len (errors.behind_ipv6 extension.TheVariants.HopByHopNotAtStart)
 
 -- the extension header that a number names in the chain, and right behind the IPv6 header
 abbrev pub extension_kind : ℕ → Option PartKind

@@ -1,5 +1,6 @@
--- Extension headers in their places: one for hop-by-hop options, one for routing, one for a fragment header, one for
--- authentication, and one for destination options on each side of the routing header (RFC 8200, section 4.1).
+-- Extension headers in their places: one for hop-by-hop options, one for routing, one for a fragment header,
+-- one for authentication, and one for destination options on each side of the routing header (RFC 8200,
+-- section 4.1).
 use Rattle.std.specs.Prelude.{ℕ, Bool, true, false, is_some, if◌then◌else◌, List, [], ◌∷◌, Option, Some, None, option_map}
 use Rattle.ether_link.specs.Places.{header_at}
 use Rattle.ether_link.specs.declared.layout.Place.{Place}
@@ -60,13 +61,17 @@ is_extension other = false
 
 -- a header of a kind in its place, if it is an extension header
 abbrev pub with_header : PartKind → List ℕ → ExtensionPlaces → ExtensionPlaces
-with_header part header held = if is_extension part then with_extension (extension_slice part header) held else held
+with_header part header held =
+    if is_extension part then with_extension (extension_slice part header) held else held
 
 -- the fields of a routing header and of the destination options behind it
 abbrev pub routing_of : Option (List ℕ) → Option (List ℕ) → Option Ipv6RoutingExtensions
 routing_of None options = None
 routing_of (Some routing) options =
-    Some (record { routing = raw_ext_header routing; final_destination_options = option_map raw_ext_header options })
+    Some (record {
+      routing = raw_ext_header routing;
+      final_destination_options = option_map raw_ext_header options;
+    })
 
 -- the fields of the headers
 abbrev pub extensions_of : ExtensionPlaces → Ipv6Extensions
@@ -96,7 +101,8 @@ unless_taken held None = None
 unless_taken held (Some stop) = if is_taken stop.kind held then None else Some stop
 
 -- the refused header, unless a header before it has its place taken
-abbrev pub free_stop : {E : Type 0} → List ℕ → ExtensionPlaces → List Place → Option (Stop E) → Option (Stop E)
+abbrev pub free_stop : {E : Type 0} → List ℕ → ExtensionPlaces → List Place → Option (Stop E)
+    → Option (Stop E)
 free_stop bytes held [] stop = unless_taken held stop
 free_stop bytes held (place ∷ more) stop =
     if is_taken place.kind held then None

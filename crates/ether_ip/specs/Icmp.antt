@@ -1,4 +1,5 @@
--- What both versions of ICMP have in common: type and code, and echo messages (RFC 792, "Echo or Echo Reply Message"; RFC 4443, sections 4.1 and 4.2).
+-- What both versions of ICMP have in common: type and code, and echo messages (RFC 792, "Echo or Echo Reply
+-- Message"; RFC 4443, sections 4.1 and 4.2).
 use Rattle.std.specs.Prelude.{ℕ, ◌==◌, Bool, ◌&&◌, List, slice_index}
 use Rattle.wire_base.specs.Bytes.{be16_at}
 use Rattle.ether_ip.specs.declared.transport.icmp_echo.IcmpEchoHeader.{IcmpEchoHeader}

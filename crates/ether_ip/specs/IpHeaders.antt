@@ -1,4 +1,5 @@
--- The headers of an IP packet as structs, and what they leave (RFC 791, section 3.1; RFC 8200, sections 3 and 4.1; RFC 4302, section 3.1).
+-- The headers of an IP packet as structs, and what they leave (RFC 791, section 3.1; RFC 8200, sections 3 and
+-- 4.1; RFC 4302, section 3.1).
 use Rattle.std.specs.Prelude.{◌≡◌, ℕ, ◌==◌, Bool, true, false, if◌then◌else◌, List, length, take, slice_index, slice_range, Option, Some, None, option_map}
 use Rattle.ether_link.specs.Form.{header_len}
 use Rattle.ether_link.specs.Layout.{window_end}
@@ -53,7 +54,8 @@ headers_with header held =
     if is_ipv4 header then Ipv4 (ipv4_header header) (record { auth = option_map auth_header held.auth })
     else Ipv6 (ipv6_header header) (extensions_of held)
 
--- the refusal of an extension header that begins at a place of the packet; the number of bytes that are there is that of the window
+-- the refusal of an extension header that begins at a place of the packet; the number of bytes that are there
+-- is that of the window
 abbrev pub refusal_in : Bool → LenSource → ℕ → chain.HeaderSliceError → headers.HeadersSliceError
 refusal_in four source start (chain.TheVariants.Len error) =
     headers.TheVariants.Len (record error { len_source = source; layer_start_offset = start })
@@ -63,7 +65,8 @@ refusal_in four source start (chain.TheVariants.Content error) =
     headers.TheVariants.Content (headers_error.TheVariants.Ipv6Ext error)
 
 -- why and at which layer a reader stopped
-abbrev pub IsStopIn : Bool → LenSource → Option (Stop chain.HeaderSliceError) → Option (headers.HeadersSliceError × Layer) → Type 0
+abbrev pub IsStopIn : Bool → LenSource → Option (Stop chain.HeaderSliceError)
+    → Option (headers.HeadersSliceError × Layer) → Type 0
 IsStopIn four source None None = Unit {0}
 IsStopIn four source (Some stop) (Some answer) =
     (answer.0 ≡ refusal_in four source stop.start stop.refusal) × (answer.1 ≡ layer_of_kind stop.kind)
@@ -79,7 +82,8 @@ pub record IsReadOf (packet : List ℕ) (read : IpHeaders) (payload : LaxIpPaylo
       (length (ip_header packet)) (window_end 0 (length packet) (ip_announced (ip_header packet)))
       held at payload.ip_number.0 payload.fragmented last
   pub headers_are : read ≡ headers_with (ip_header packet) held
-  pub payload_is : payload.payload.now ≡ slice_range packet at (window_end 0 (length packet) (ip_announced (ip_header packet)))
+  pub payload_is : payload.payload.now
+      ≡ slice_range packet at (window_end 0 (length packet) (ip_announced (ip_header packet)))
   pub incomplete : payload.incomplete ≡ is_cut_off 0 (length packet) (ip_announced (ip_header packet))
   pub source : payload.len_source ≡ ip_source (ip_header packet) 0 (length packet)
   pub stopped : IsStopIn (is_ipv4 (ip_header packet)) (ip_source (ip_header packet) 0 (length packet)) last stop

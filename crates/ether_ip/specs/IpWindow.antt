@@ -1,4 +1,5 @@
--- The window of an IP packet: where its payload ends, and what says so (RFC 791, section 3.1; RFC 8200, section 3).
+-- The window of an IP packet: where its payload ends, and what says so (RFC 791, section 3.1; RFC 8200,
+-- section 3).
 use Rattle.std.specs.Prelude.{ℕ, ◌+◌, ◌==◌, nat_lt, if◌then◌else◌, List, length, Option, Some, None}
 use Rattle.wire_base.specs.Bytes.{be16_at}
 use Rattle.ether_link.specs.Places.{source_of_length}
@@ -6,7 +7,8 @@ use Rattle.ether_link.specs.declared.len_source.LenSource.{LenSource}
 use Rattle.ether_link.specs.declared.len_source.LenSource.TheVariants.{Ipv4HeaderTotalLen, Ipv6HeaderPayloadLen}
 use Rattle.ether_ip.specs.Version.{ip_version}
 
--- how many bytes header and payload have: a total length that has no room for the header says nothing, nor does a payload length of 0
+-- how many bytes header and payload have: a total length that has no room for the header says nothing, nor
+-- does a payload length of 0
 abbrev pub ipv4_announced : List ℕ → Option ℕ
 ipv4_announced header = if nat_lt (be16_at header 2) (length header) then None else Some (be16_at header 2)
 

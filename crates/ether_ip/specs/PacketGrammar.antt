@@ -1,5 +1,5 @@
--- How the parts of a packet follow one another (RFC 791, section 3.1; RFC 8200, sections 3 and 4; RFC 4302, section 3.1; IANA, "Assigned Internet
--- Protocol Numbers").
+-- How the parts of a packet follow one another (RFC 791, section 3.1; RFC 8200, sections 3 and 4; RFC 4302,
+-- section 3.1; IANA, "Assigned Internet Protocol Numbers").
 use Rattle.std.specs.Prelude.{ℕ, ◌==◌, Bool, true, false, if◌then◌else◌, List, slice_index, Option, Some, None}
 use Rattle.ether_link.specs.Form.{Form, or_else}
 use Rattle.ether_link.specs.Layout.{Grammar}
@@ -49,14 +49,16 @@ transport_kind number =
     else (if number == tcp then Some kind.Tcp
     else (if number == icmpv6 then Some kind.Icmpv6 else None)))
 
--- the part that a number names: an extension header, or the transport header unless the packet carries a fragment
+-- the part that a number names: an extension header, or the transport header unless the packet carries a
+-- fragment
 abbrev pub part_turn : ℕ → Bool → Option PartKind → ℕ → Option Turn
 part_turn held fragmented extension number =
     or_else (turn_to held fragmented extension) (if fragmented then None else turn_to held false (transport_kind number))
 
 -- the part that a header names
 abbrev pub ip_next_of : PartKind → Turn → List ℕ → Option Turn
-ip_next_of kind.Ip turn header = part_turn turn.link_exts (is_fragment_in header) (extension_in header) (number_in header)
+ip_next_of kind.Ip turn header =
+    part_turn turn.link_exts (is_fragment_in header) (extension_in header) (number_in header)
 ip_next_of kind.Udp turn header = None
 ip_next_of kind.Tcp turn header = None
 ip_next_of kind.Icmpv4 turn header = None

@@ -9,7 +9,8 @@ use Rattle.ether_link.specs.declared.err.length.LenError.{LenError}
 use Rattle.ether_ip.specs.Numbers.{hop_by_hop, ipv6_route}
 use Rattle.ether_ip.specs.declared.ip.raw_ext.Ipv6RawExtHeader.{Ipv6RawExtHeader}
 
--- the layer of a number: 0 is that of hop-by-hop options, 43 that of routing, and 60 that of destination options
+-- the layer of a number: 0 is that of hop-by-hop options, 43 that of routing, and 60 that of destination
+-- options
 abbrev pub raw_ext_layer : ℕ → Layer
 raw_ext_layer number =
     if number == hop_by_hop then Ipv6HopByHopHeader else (if number == ipv6_route then Ipv6RouteHeader else Ipv6DestOptionsHeader)
@@ -34,4 +35,5 @@ IsRawExt bytes = 8 + 8 * slice_index (take 8 bytes) 1 ≡ length bytes
 
 -- its fields
 abbrev pub raw_ext_header : List ℕ → Ipv6RawExtHeader
-raw_ext_header bytes = record { next_header = record { 0 = slice_index bytes 0 }; payload = record { items = drop 2 bytes } }
+raw_ext_header bytes =
+    record { next_header = record { 0 = slice_index bytes 0 }; payload = record { items = drop 2 bytes } }

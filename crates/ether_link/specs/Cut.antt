@@ -13,10 +13,12 @@ cut_places n (place ∷ more) =
 
 -- a kind that takes no note of where the bytes end, or one that ends a layout
 pub record IsCuttable {E : Type 0} (grammar : Grammar E) (is_last : PartKind → Bool) : Type 0 where
-  pub open_end : (kind : PartKind) (head : List ℕ) → is_last kind ≡ false → (grammar.form_of kind).alone head ≡ false
+  pub open_end : (kind : PartKind) (head : List ℕ) → is_last kind ≡ false
+      → (grammar.form_of kind).alone head ≡ false
   pub ends : (turn : Turn) (header : List ℕ) → is_last turn.kind ≡ true → grammar.next turn header ≡ None
 
 -- the places of all kinds but those that end a layout
 abbrev pub proper : (PartKind → Bool) → List Place → List Place
 proper is_last [] = []
-proper is_last (place ∷ more) = if is_last place.kind then proper is_last more else (place ∷ proper is_last more)
+proper is_last (place ∷ more) =
+    if is_last place.kind then proper is_last more else (place ∷ proper is_last more)

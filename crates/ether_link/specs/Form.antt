@@ -41,7 +41,13 @@ or_else (Some first) second = Some first
 -- a length that is not the required one
 abbrev pub len_error : Layer → LenSource → ℕ → ℕ → LenError
 len_error layer source there required =
-    record { required_len = required; len = there; len_source = source; layer = layer; layer_start_offset = 0 }
+    record {
+      required_len = required;
+      len = there;
+      len_source = source;
+      layer = layer;
+      layer_start_offset = 0;
+    }
 
 -- the refusal of too few bytes, and that of too many
 abbrev pub short : {E : Type 0} → (LenError → E) → Layer → LenSource → ℕ → ℕ → Option E

@@ -33,8 +33,10 @@ place_of grammar kind bytes start end = record {
   end = window_end start end (grammar.announced kind (header grammar kind bytes));
 }
 
--- the places are those of the parts from a turn on, in the window from `start` to `end`, up to the first refused one
-abbrev pub IsLayoutFrom : {E : Type 0} → Grammar E → List ℕ → Option Turn → ℕ → ℕ → List Place → Option (Stop E) → Type 0
+-- the places are those of the parts from a turn on, in the window from `start` to `end`, up to the first
+-- refused one
+abbrev pub IsLayoutFrom : {E : Type 0} → Grammar E → List ℕ → Option Turn → ℕ → ℕ → List Place
+    → Option (Stop E) → Type 0
 IsLayoutFrom grammar frame None start end [] stop = stop ≡ None
 IsLayoutFrom grammar frame None start end (place ∷ more) stop = ⊥
 IsLayoutFrom {E} grammar frame (Some turn) start end [] stop =
@@ -50,7 +52,8 @@ pub record IsOrderly {E : Type 0} (grammar : Grammar E) : Type 0 where
   pub positive : (kind : PartKind) (bytes : List ℕ) → refusal (grammar.form_of kind) bytes ≡ None
       → 0 < header_len (grammar.form_of kind) bytes
   pub covers : (kind : PartKind) (bytes : List ℕ) (said : ℕ) → refusal (grammar.form_of kind) bytes ≡ None
-      → grammar.announced kind (header grammar kind bytes) ≡ Some said → header_len (grammar.form_of kind) bytes ≤ said
+      → grammar.announced kind (header grammar kind bytes) ≡ Some said
+      → header_len (grammar.form_of kind) bytes ≤ said
 
 -- there is a layout
 abbrev pub HasLayout : {E : Type 0} → Grammar E → List ℕ → Option Turn → ℕ → ℕ → Type 0
@@ -61,7 +64,8 @@ HasLayout {E} grammar frame turn start end =
 abbrev pub HasOneLayout : {E : Type 0} → Grammar E → List ℕ → Option Turn → ℕ → ℕ → Type 0
 HasOneLayout {E} grammar frame turn start end =
     (places others : List Place) (stop last : Option (Stop E))
-    → IsLayoutFrom grammar frame turn start end places stop → IsLayoutFrom grammar frame turn start end others last
+    → IsLayoutFrom grammar frame turn start end places stop
+    → IsLayoutFrom grammar frame turn start end others last
     → (places ≡ others) × (stop ≡ last)
 
 -- each place lies in the window of the one before, a header and then a window

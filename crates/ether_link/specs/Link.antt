@@ -22,8 +22,10 @@ payload_of_link (link.TheVariants.LinuxSllPayload payload) = payload.payload.now
 
 -- the fields of its header, if it has one
 abbrev pub IsHeaderOfLink : link.LinkSlice → Option header.LinkHeader → Type 0
-IsHeaderOfLink (link.TheVariants.Ethernet2 frame) (Some (header.TheVariants.Ethernet2 fields)) = fields ≡ ethernet2_header frame
-IsHeaderOfLink (link.TheVariants.LinuxSll packet) (Some (header.TheVariants.LinuxSll fields)) = Some fields ≡ linux_sll_header packet
+IsHeaderOfLink (link.TheVariants.Ethernet2 frame) (Some (header.TheVariants.Ethernet2 fields)) =
+    fields ≡ ethernet2_header frame
+IsHeaderOfLink (link.TheVariants.LinuxSll packet) (Some (header.TheVariants.LinuxSll fields)) =
+    Some fields ≡ linux_sll_header packet
 IsHeaderOfLink (link.TheVariants.EtherPayload payload) None = Unit {0}
 IsHeaderOfLink (link.TheVariants.LinuxSllPayload payload) None = Unit {0}
 IsHeaderOfLink bytes other = ⊥

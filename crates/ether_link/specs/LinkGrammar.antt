@@ -1,4 +1,5 @@
--- How the parts of the link layer follow one another (IEEE 802.1Q, section 9; IEEE 802.1AE, section 9; RFC 7042, appendix B).
+-- How the parts of the link layer follow one another (IEEE 802.1Q, section 9; IEEE 802.1AE, section 9; RFC
+-- 7042, appendix B).
 use Rattle.std.specs.Prelude.{ℕ, ◌+◌, ◌==◌, nat_lt, Bool, false, ◌||◌, if◌then◌else◌, List, length, Option, Some, None, option_map, option_and_then}
 use Rattle.wire_base.specs.Bytes.{be16_at}
 use Rattle.ether_link.specs.Form.{Form}
@@ -69,7 +70,8 @@ module _ {E : Type 0} (errors : LinkErrors E) (above : Grammar E) where
 
   abbrev pub link_next_of : PartKind → Turn → List ℕ → Option Turn
   link_next_of Ethernet2 turn header = by_ether_type 0 (be16_at header 12)
-  link_next_of LinuxSll turn header = by_protocol_type (protocol_type_of (be16_at header 2) (be16_at header 14))
+  link_next_of LinuxSll turn header =
+      by_protocol_type (protocol_type_of (be16_at header 2) (be16_at header 14))
   link_next_of Vlan turn header = by_ether_type (turn.link_exts + 1) (be16_at header 2)
   link_next_of Macsec turn header = option_and_then (λ ether_type. by_ether_type (turn.link_exts + 1) ether_type.0) (macsec_next_ether_type header)
   link_next_of Arp turn header = None

@@ -25,7 +25,8 @@ protocol_type_of hardware number =
 -- a known kind of hardware
 abbrev pub is_known_hardware : ℕ → Bool
 is_known_hardware hardware =
-    (hardware == 1) || (hardware == 772) || (hardware == 824) || (hardware == 778) || (hardware == 823) || (hardware == 803) || (hardware == 770)
+    (hardware == 1) || (hardware == 772) || (hardware == 824) || (hardware == 778) || (hardware == 823)
+    || (hardware == 803) || (hardware == 770)
 
 -- a header has 16 bytes, a packet type of at most 4, and a known kind of hardware
 abbrev pub linux_sll_form : {E : Type 0} → (LenError → E) → (HeaderError → E) → Form E
@@ -57,4 +58,5 @@ header_with bytes protocol_type = record {
 }
 
 abbrev pub linux_sll_header : List ℕ → Option LinuxSllHeader
-linux_sll_header bytes = option_map (header_with bytes) (protocol_type_of (be16_at bytes 2) (be16_at bytes 14))
+linux_sll_header bytes =
+    option_map (header_with bytes) (protocol_type_of (be16_at bytes 2) (be16_at bytes 14))

@@ -22,7 +22,8 @@ is_unmodified bytes = not (flag_at bytes 0 3) && not (flag_at bytes 0 2)
 abbrev pub short_len : List ℕ → ℕ
 short_len bytes = slice_index bytes 1 % 64
 
--- a tag has six bytes, eight of a channel identifier where bit SC is set, and two of an ether type where the payload is unmodified
+-- a tag has six bytes, eight of a channel identifier where bit SC is set, and two of an ether type where the
+-- payload is unmodified
 abbrev pub macsec_form : {E : Type 0} → (LenError → E) → (HeaderError → E) → Form E
 macsec_form wrong_len wrong = record {
   least = 6;

@@ -35,7 +35,8 @@ pub record IsCutIntoArp (from to : EthernetAddress) (arp : ArpRepr) (frame : Lis
   pub layout : IsEthernetLayout frame (ethernet_place (length frame) ∷ arp_place ∷ []) None
   pub only : (places : List Place) (stop : Option (Stop SliceError)) → IsEthernetLayout frame places stop
       → (places ≡ ethernet_place (length frame) ∷ arp_place ∷ []) × (stop ≡ None)
-  pub ethernet : ethernet2_header (header_at frame (ethernet_place (length frame))) ≡ sent_ethernet from to 0x0806
+  pub ethernet : ethernet2_header (header_at frame (ethernet_place (length frame)))
+      ≡ sent_ethernet from to 0x0806
   pub packet : arp_packet (header_at frame arp_place) ≡ sent_arp arp
 
 -- each frame that is sent with a packet is cut into it, whatever follows, as the padding of a short frame

@@ -40,7 +40,8 @@ datagram_places len = ethernet_place len ∷ ipv4_place len ∷ udp_place len �
 
 -- the fields of the headers
 abbrev pub sent_ethernet : EthernetAddress → EthernetAddress → ℕ → Ethernet2Header
-sent_ethernet from to number = record { source = from.0; destination = to.0; ether_type = record { 0 = number } }
+sent_ethernet from to number =
+    record { source = from.0; destination = to.0; ether_type = record { 0 = number } }
 
 abbrev pub sent_ipv4 : ℕ → Datagram → ℕ → Ipv4Header
 sent_ipv4 hop_limit datagram checksum = record {
@@ -79,7 +80,8 @@ pub record IsCutIntoDatagram (from to : EthernetAddress) (hop_limit : ℕ) (data
   pub layout : IsEthernetLayout frame (datagram_places (length frame)) None
   pub only : (places : List Place) (stop : Option (Stop SliceError)) → IsEthernetLayout frame places stop
       → (places ≡ datagram_places (length frame)) × (stop ≡ None)
-  pub ethernet : ethernet2_header (header_at frame (ethernet_place (length frame))) ≡ sent_ethernet from to 0x0800
+  pub ethernet : ethernet2_header (header_at frame (ethernet_place (length frame)))
+      ≡ sent_ethernet from to 0x0800
   pub ipv4_checksum : ℕ
   pub ipv4 : ipv4_header (header_at frame (ipv4_place (length frame)))
       ≡ sent_ipv4 hop_limit datagram ipv4_checksum

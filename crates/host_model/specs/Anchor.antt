@@ -13,7 +13,8 @@ pub data Anchor : Type 0 where
 abbrev pub place_of : Anchor → ℕ
 place_of (Loss place) = place
 
--- when the client sends next under an anchor, in microseconds, by the times of the messages since it, newest first
+-- when the client sends next under an anchor, in microseconds, by the times of the messages since it, newest
+-- first
 abbrev pub due_under : RetryConfig → List ℕ → Anchor → ℕ
 due_under retry sent (Loss place) = loss_due retry sent
 
@@ -21,8 +22,8 @@ due_under retry sent (Loss place) = loss_due retry sent
 abbrev pub is_over : RetryConfig → List ℕ → ℕ → Anchor → Bool
 is_over retry sent at (Loss place) = false
 
--- What an arrival at a place makes of the anchor: a tick leaves it, and from a reset on the client has no lease.
--- So far a frame leaves it, since no client hears one.
+-- What an arrival at a place makes of the anchor: a tick leaves it, and from a reset on the client has no
+-- lease. So far a frame leaves it, since no client hears one.
 abbrev pub anchor_after_arrival : ℕ → Arrival → Anchor → Anchor
 anchor_after_arrival here Tick anchor = anchor
 anchor_after_arrival here Reset anchor = Loss here
@@ -40,7 +41,8 @@ anchor_after settings before event anchor =
 -- the anchor after the events so far
 abbrev pub anchor_before : Settings → List Entry → Anchor
 anchor_before settings [] = Loss 0
-anchor_before settings (entry ∷ before) = anchor_after settings before entry.event (anchor_before settings before)
+anchor_before settings (entry ∷ before) =
+    anchor_after settings before entry.event (anchor_before settings before)
 
 -- the anchor that an event sends by
 abbrev pub anchor_at : Settings → List Entry → Event → Anchor

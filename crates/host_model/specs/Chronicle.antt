@@ -38,7 +38,8 @@ entry_at settings words before event = entry_of settings before event (words_at 
 -- the entries after more events, newest first
 abbrev pub history_from : Settings → List ℕ → List Entry → List Event → List Entry
 history_from settings words before [] = before
-history_from settings words before (event ∷ events) = history_from settings words (entry_at settings words before event ∷ before) events
+history_from settings words before (event ∷ events) =
+    history_from settings words (entry_at settings words before event ∷ before) events
 
 -- the entries of a script's events
 abbrev pub history : Settings → List ℕ → List Event → List Entry
@@ -47,4 +48,5 @@ history settings words events = history_from settings words [] events
 -- one event more is one entry more, found from the entries so far
 abbrev pub GrowsByEntry : Type 0
 GrowsByEntry = (settings : Settings) (words : List ℕ) (events : List Event) (event : Event)
-    → history settings words (events ++ event ∷ []) ≡ entry_at settings words (history settings words events) event ∷ history settings words events
+    → history settings words (events ++ event ∷ [])
+    ≡ entry_at settings words (history settings words events) event ∷ history settings words events

@@ -26,8 +26,8 @@ pub record IsOverLimit (max : ℕ) (bytes : List ℕ) : Type 0 where
   pub full : length events ≡ max
   pub goes_on : 0 < length more
 
--- The bytes are fewer than `max` events, of together `offset` bytes, and then at least one byte; no front of what follows
--- is a next event.
+-- The bytes are fewer than `max` events, of together `offset` bytes, and then at least one byte; no front of
+-- what follows is a next event.
 pub record IsBrokenAt (max : ℕ) (bytes : List ℕ) (offset : ℕ) : Type 0 where
   pub events : List Event
   pub front : List ℕ
@@ -38,7 +38,8 @@ pub record IsBrokenAt (max : ℕ) (bytes : List ℕ) (offset : ℕ) : Type 0 whe
   pub goes_on : 0 < length more
   pub no_event : BeginsNoEvent (last_time 0 events) more
 
--- Bytes are in exactly one of the classes: in one of them, in no two, valid for one list of events, broken at one place.
+-- Bytes are in exactly one of the classes: in one of them, in no two, valid for one list of events, broken at
+-- one place.
 pub record IsOneOfThree : Type 0 where
   pub some : (max : ℕ) (bytes : List ℕ)
       → IsValidScript max bytes ⊎ (IsOverLimit max bytes ⊎ ((offset : ℕ) × IsBrokenAt max bytes offset))

@@ -1,5 +1,5 @@
--- When the DHCP client sends next, by the times of what it sent since its anchor, newest first (RFC 2131, sections 4.1 and
--- 4.4.1).
+-- When the DHCP client sends next, by the times of what it sent since its anchor, newest first (RFC 2131,
+-- sections 4.1 and 4.4.1).
 use Rattle.std.specs.Prelude.{ℕ, ◌+◌, List, [], ◌∷◌}
 use Rattle.dhcp_client.specs.declared.retry.RetryConfig.{RetryConfig}
 

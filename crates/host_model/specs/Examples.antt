@@ -37,16 +37,16 @@ sent_ids entries =
 abbrev pub reset_at_one : List Event
 reset_at_one = tick 0 ∷ reset 1000000 ∷ tick 10000000 ∷ []
 
--- A reset's own event sends, although the timeout of 10 s after the message before is not over; the next timeout
--- begins at that message.
+-- A reset's own event sends, although the timeout of 10 s after the message before is not over; the next
+-- timeout begins at that message.
 pub record SendsAtReset : Type 0 where
   pub sent : sent_ids (example_history (reset_at_one ++ tick 10999999 ∷ tick 11000000 ∷ []))
       ≡ Some 50 ∷ None ∷ None ∷ Some 20 ∷ Some 10 ∷ []
   pub anchor : anchor_before example_settings (example_history reset_at_one) ≡ Loss 1
   pub since : times_since 1 (example_history reset_at_one) ≡ 1000000 ∷ []
 
--- A reset before any other event sends once, two resets at one moment send twice, and the last id is that of the
--- last message.
+-- A reset before any other event sends once, two resets at one moment send twice, and the last id is that of
+-- the last message.
 pub record SendsAtEachReset : Type 0 where
   pub first : sent_ids (example_history (reset 5000000 ∷ tick 5000000 ∷ [])) ≡ None ∷ Some 10 ∷ []
   pub twice : sent_ids (example_history (reset 0 ∷ reset 0 ∷ [])) ≡ Some 20 ∷ Some 10 ∷ []

@@ -1,5 +1,6 @@
--- The events before an event, with the DHCP message that was sent in each: newest first, so that what was sent last stands
--- first. Events are counted from 0, and the place of an event is the number of those before it.
+-- The events before an event, with the DHCP message that was sent in each: newest first, so that what was
+-- sent last stands first. Events are counted from 0, and the place of an event is the number of those before
+-- it.
 use Rattle.std.specs.Prelude.{ℕ, ◌-◌, List, [], ◌∷◌, Option, Some, None, length, take}
 use Rattle.net_wire.specs.declared.address.EthernetAddress.{EthernetAddress}
 use Rattle.net_wire.specs.declared.address.Ipv4Address.{Ipv4Address}

@@ -24,4 +24,5 @@ named_under settings before event words anchor =
 
 -- the message that an event names, by the entries before it and its words
 abbrev pub named_message : Settings → List Entry → Event → EventWords → Option Transmission
-named_message settings before event words = named_under settings before event words (anchor_at settings before event)
+named_message settings before event words =
+    named_under settings before event words (anchor_at settings before event)

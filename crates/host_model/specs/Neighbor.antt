@@ -12,8 +12,8 @@ use Rattle.host_model.specs.History.{Entry}
 abbrev pub ethernet_broadcast : EthernetAddress
 ethernet_broadcast = record { 0 = replicate 6 255 }
 
--- The hop at an event. That of all hosts of the link is all stations of it; so far that of any other destination is not
--- known.
+-- The hop at an event. That of all hosts of the link is all stations of it; so far that of any other
+-- destination is not known.
 abbrev pub known_hop : Settings → List Entry → Event → Ipv4Address → Option EthernetAddress
 known_hop settings before event destination =
     if pointwise nat_eq destination.0 limited_broadcast.0 then Some ethernet_broadcast else None

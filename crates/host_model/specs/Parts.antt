@@ -1,4 +1,5 @@
--- The parts of an event, in their order: its kind, its time, what it brings. Each is tried when all its bytes are there.
+-- The parts of an event, in their order: its kind, its time, what it brings. Each is tried when all its bytes
+-- are there.
 use Rattle.std.specs.Prelude.{◌≡◌, ℕ, ◌^◌, ◌<◌, ◌≤◌, ◌⊎◌, List, [], ◌∷◌, ◌++◌, length}
 use Rattle.std.specs.Int.{to_be_bytes, w16}
 use Rattle.host_model.specs.Script.{Arrival, kind_byte, head_with, head_bytes, time_limit, BeginsNoEvent}
@@ -30,8 +31,8 @@ pub record IsInFrame (last : ℕ) (part : List ℕ) : Type 0 where
   pub whole : part ≡ head_with 1 at ++ (to_be_bytes w16 len ++ front)
   pub short : length front < len
 
--- The bytes end inside an event that may follow one at the time `last`: their parts are tried, and the next one
--- lacks bytes.
+-- The bytes end inside an event that may follow one at the time `last`: their parts are tried, and the next
+-- one lacks bytes.
 abbrev pub IsInside : ℕ → List ℕ → Type 0
 IsInside last part = (part ≡ []) ⊎ (IsInTime part ⊎ (IsInLength last part ⊎ IsInFrame last part))
 

@@ -1,4 +1,5 @@
--- The script: a list of events in the order of their times, as docs/FORMATS.md lays it out. Numbers are big-endian.
+-- The script: a list of events in the order of their times, as docs/FORMATS.md lays it out. Numbers are
+-- big-endian.
 use Rattle.std.specs.Prelude.{◌≡◌, ℕ, ◌*◌, ◌^◌, ◌<◌, ◌≤◌, List, [], ◌∷◌, ◌++◌, length, ⊤}
 use Rattle.std.specs.Int.{to_be_bytes, w16, w64}
 

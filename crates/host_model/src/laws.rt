@@ -41,8 +41,8 @@ pub fn grows_by_entry()
     ensures { GrowsByEntry }
 {}
 
-/// The constants of addresses are all stations of a link (IEEE 802.3, section 3.2.3), no address and all hosts of a link
-/// (RFC 1122, section 3.2.1.3).
+/// The constants of addresses are all stations of a link (IEEE 802.3, section 3.2.3), no address and all
+/// hosts of a link (RFC 1122, section 3.2.1.3).
 pub fn constants()
     ensures all_stations { EthernetAddress.BROADCAST.0 ≡ replicate 6 255 }
     ensures no_address { Ipv4Address.UNSPECIFIED.0 ≡ replicate 4 0 }

@@ -15,8 +15,9 @@ pub record IsNumberWord (radix most_digits : ℕ) (word : List ℕ) (number : �
   pub short : length word ≤ most_digits
   pub value : number ≡ digits_value radix word
 
--- The word is twelve hexadecimal digits, which write the six bytes of the address of one station, the first byte first.
--- The lowest bit of the first byte would say that it is the address of a group (IEEE 802.3, section 3.2.3).
+-- The word is twelve hexadecimal digits, which write the six bytes of the address of one station, the first
+-- byte first. The lowest bit of the first byte would say that it is the address of a group (IEEE 802.3,
+-- section 3.2.3).
 pub record IsAddressWord (word : List ℕ) (address : EthernetAddress) : Type 0 where
   pub digits : IsNumeral 16 word
   pub long : length word ≡ 12

@@ -88,7 +88,8 @@ HasEnded words before after report Refused = IsTaken words → ⊥
 HasEnded words before after report ending =
     ForNamed words (λ command. EndedAs command before after report ending)
 
--- The text of the report and the last line were handed to the output, which decides on the status beside the ending.
+-- The text of the report and the last line were handed to the output, which decides on the status beside the
+-- ending.
 pub record Prints {O : Type 0} (sink : byte_sink.Ghosts O) (ending : Ending) (report : List Row)
     (result : ℕ) (old new : O) : Type 0 where
   pub answer : Result (Unit {0}) SinkError

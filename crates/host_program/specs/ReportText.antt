@@ -61,8 +61,9 @@ abbrev pub stop_text : Option Layer → List ℕ
 stop_text None = codes "none"
 stop_text (Some layer) = layer_word layer
 
--- what is noted of a frame that arrived: how many link extensions it has, its network and transport layer, the window
--- of its last part, whether bytes are missing or it carries a fragment, and where the dissection stopped
+-- what is noted of a frame that arrived: how many link extensions it has, its network and transport layer,
+-- the window of its last part, whether bytes are missing or it carries a fragment, and where the dissection
+-- stopped
 abbrev pub found_text : FrameNote → List ℕ
 found_text note =
     codes " exts=" ++ decimal note.exts ++ codes " net=" ++ net_text note.net

@@ -8,8 +8,8 @@ use Rattle.phy_layers.specs.Sink.{Took}
 abbrev pub six_digits : ℕ → List ℕ
 six_digits number = replicate (6 - length (decimal number)) 48 ++ decimal number
 
--- Whatever was handed to the sink before, with the answer `before`: the piece was handed to it behind that, and both
--- together have the answer `after`.
+-- Whatever was handed to the sink before, with the answer `before`: the piece was handed to it behind that,
+-- and both together have the answer `after`.
 pub record Puts {S : Type 0} (bytes : S → Option (List ℕ)) (faults : S → ℕ) (grows : Bool)
     (before after : Result (Unit {0}) SinkError) (piece : List ℕ) (old new : S) : Type 0 where
   pub goes_on : (start : S) (handed : List ℕ) → Took bytes faults grows before handed start old

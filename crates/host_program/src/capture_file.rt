@@ -6,11 +6,12 @@ use std::alloc::Global;
 use std::io::{BufWriter, Write};
 use std::marker::Model;
 
-/// What is captured of a packet at most, and the header of its record: a record reaches the file in one write.
+/// What is captured of a packet at most, and the header of its record: a record reaches the file in one
+/// write.
 const RECORD: usize = 262_144 + 16;
 
-/// Writes a capture to a file. Up to the first flush each write reaches the file; from then on writes are held back until
-/// the next flush. It tells the bytes that its writer tells.
+/// Writes a capture to a file. Up to the first flush each write reaches the file; from then on writes are
+/// held back until the next flush. It tells the bytes that its writer tells.
 #[derive(Drop)]
 pub struct CaptureFile<W: Write + Drop> {
     sink: WriteSink<BufWriter<W>>,

@@ -3,8 +3,8 @@ use std::io;
 use std::io::{ErrorKind, Stdout, Write};
 use std::os::fd::AsFd;
 
-/// Standard output. Where it was closed when the program began, its number may come to be that of a file that the program
-/// opens: then nothing is ever written to it, and each call fails.
+/// Standard output. Where it was closed when the program began, its number may come to be that of a file that
+/// the program opens: then nothing is ever written to it, and each call fails.
 #[derive(Drop)]
 pub struct Output {
     stream: Option<Stdout>,

@@ -1,4 +1,5 @@
--- The capture of a run: libpcap's file format over Ethernet (draft-ietf-opsawg-pcap), the frames in the order of the events.
+-- The capture of a run: libpcap's file format over Ethernet (draft-ietf-opsawg-pcap), the frames in the order
+-- of the events.
 use Rattle.std.specs.Prelude.{ℕ, List, [], ◌∷◌, ◌++◌}
 use Rattle.std.specs.List.{flat_map}
 use Rattle.phy_layers.specs.PcapBytes.{global_header, packet_record}

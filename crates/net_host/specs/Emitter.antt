@@ -16,9 +16,11 @@ datagram_in outgoing = datagram_of outgoing.ip outgoing.udp (message_bytes outgo
 
 -- the hop that the emitter knows: that of all hosts of the link is all stations of it
 abbrev pub hop_by : Emitter → Ipv4Address → Option EthernetAddress
-hop_by out destination = if pointwise nat_eq destination.0 limited_broadcast.0 then Some ethernet_broadcast else None
+hop_by out destination =
+    if pointwise nat_eq destination.0 limited_broadcast.0 then Some ethernet_broadcast else None
 
--- The hop of the message is known, and the list of sent frames grew by the one frame that carries the message to it.
+-- The hop of the message is known, and the list of sent frames grew by the one frame that carries the message
+-- to it.
 pub record TakesMessage (old new : Emitter) (outgoing : Outgoing) : Type 0 where
   pub hop : EthernetAddress
   pub frame : List ℕ

@@ -14,8 +14,8 @@ use Rattle.net_host.specs.Config.{CanRun}
 use Rattle.net_host.specs.Reading.{event_at}
 use Rattle.net_host.specs.Rows.{AreFramesOf, dhcp_frames}
 
--- A history that the host agrees with before the event: it agrees with that and the event's entry after it, whose frames
--- were sent, and gives the address that is leased then.
+-- A history that the host agrees with before the event: it agrees with that and the event's entry after it,
+-- whose frames were sent, and gives the address that is leased then.
 pub record Answers (settings : Settings) (before : List Entry) (at : ℤ) (event : ScriptEvent) (words : EventWords) (new : Host)
     (handled : Handled) : Type 0 where
   pub agrees : AgreesWithHistory settings (entry_of settings before (event_at at event) words ∷ before) new

@@ -38,9 +38,12 @@ pub record GivesRest (kind : EventKind) (left_old left_new : Option (List ℕ)) 
   pub within : len ≤ length into
   pub took : Consumes left_old left_new (rest_bytes kind (take len into))
 
--- a part of what stands behind the head of a frame: its length or a front of that, and not all bytes of the frame
+-- a part of what stands behind the head of a frame: its length or a front of that, and not all bytes of the
+-- frame
 pub record IsCutRest (part : List ℕ) : Type 0 where
-  pub cut : (length part < 2) ⊎ ((len : ℕ) × (front : List ℕ) × (len < 2 ^ 16) × (length front < len) × (part ≡ to_be_bytes w16 len ++ front))
+  pub cut : (length part < 2)
+      ⊎ ((len : ℕ) × (front : List ℕ) × (len < 2 ^ 16) × (length front < len)
+      × (part ≡ to_be_bytes w16 len ++ front))
 
 -- What was read of it, by the answer: all that the input, or the failing source, left of it.
 pub record CutsRest (error : ReadEventError) (kind : EventKind) (left_old left_new : Option (List ℕ)) : Type 0 where

@@ -10,13 +10,17 @@ use Rattle.dhcp_client.specs.Plan.{plan_for, Dispatched}
 use Rattle.net_host.specs.declared.emitter.Emitter.{Emitter}
 use Rattle.net_host.specs.Emitter.{TakesMessage, RefusesMessage}
 
--- The client is not due; or it is due, and after a dispatch the same; or the hop of its message is not known, and that ends it.
+-- The client is not due; or it is due, and after a dispatch the same; or the hop of its message is not known,
+-- and that ends it.
 pub data Polled : Context → ℕ → Client → Emitter → Client → Emitter → Type 0 where
-  IsQuiet : (cx : Context) (word : ℕ) (client : Client) (out : Emitter) → cx.now <ℤ poll_at_of client.state → Polled cx word client out client out
-  GoesOn : (cx : Context) (word : ℕ) (client next last : Client) (out mid later : Emitter) → poll_at_of client.state ≤ℤ cx.now
+  IsQuiet : (cx : Context) (word : ℕ) (client : Client) (out : Emitter) → cx.now <ℤ poll_at_of client.state
+      → Polled cx word client out client out
+  GoesOn : (cx : Context) (word : ℕ) (client next last : Client) (out mid later : Emitter)
+      → poll_at_of client.state ≤ℤ cx.now
       → Dispatched TakesMessage RefusesMessage (plan_for client cx word) (Ok tt) client next out mid
       → Polled cx word next mid last later → Polled cx word client out last later
-  Waits : (cx : Context) (word : ℕ) (client next : Client) (out later : Emitter) → poll_at_of client.state ≤ℤ cx.now
+  Waits : (cx : Context) (word : ℕ) (client next : Client) (out later : Emitter)
+      → poll_at_of client.state ≤ℤ cx.now
       → Dispatched TakesMessage RefusesMessage (plan_for client cx word) (Err Unresolved) client next out later
       → Polled cx word client out next later
 

@@ -1,8 +1,9 @@
 -- What a contract sees of a reader of events.
 use Rattle.std.specs.Prelude.{ℕ, ◌+◌, List, [], Bool, true, false, Option, Some, None}
 
--- The bytes and the number of the events that came, the time of the last one in microseconds, the most events there
--- may be, once it was told, whether no event comes any more, and the frame that the last event brought, if it did.
+-- The bytes and the number of the events that came, the time of the last one in microseconds, the most events
+-- there may be, once it was told, whether no event comes any more, and the frame that the last event brought,
+-- if it did.
 pub record ReaderState : Type 0 where
   pub offset : ℕ
   pub events : ℕ

@@ -54,8 +54,8 @@ pub record EndsInside (last : ℕ) (left : Option (List ℕ)) (part : List ℕ) 
   pub inside : IsInside last part
   pub at_end : IsAtEnd left
 
--- What was taken behind the last event, by the answer: the parts up to the one that is refused, or all that there was of
--- them; one byte; the parts before the failure.
+-- What was taken behind the last event, by the answer: the parts up to the one that is refused, or all that
+-- there was of them; one byte; the parts before the failure.
 abbrev pub EndsWith : ReadEventError → ℕ → Option (List ℕ) → List ℕ → Type 0
 EndsWith (Script offset) last left part = IsRefused last part ⊎ EndsInside last left part
 EndsWith Limit last left part = length part ≡ 1

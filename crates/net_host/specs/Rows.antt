@@ -47,8 +47,8 @@ datagram_for settings transmission = record {
   payload = message_bytes transmission.message;
 }
 
--- The one frame of a message that was sent, from the host's hardware address to the message's hop, with hop limit 64;
--- without a message there is none.
+-- The one frame of a message that was sent, from the host's hardware address to the message's hop, with hop
+-- limit 64; without a message there is none.
 pub record IsFrameOf (settings : Settings) (sent : SentMessage) (frames : List (List ℕ)) : Type 0 where
   pub frame : List ℕ
   pub carries : IsSentFrame settings.hardware sent.hop 64 (datagram_for settings sent.transmission) frame
@@ -58,8 +58,8 @@ abbrev pub AreFramesOf : Settings → Option SentMessage → List (List ℕ) →
 AreFramesOf settings None frames = frames ≡ []
 AreFramesOf settings (Some sent) frames = IsFrameOf settings sent frames
 
--- The row of an event whose entry is this one: its time and kind, the note of the frame that arrived, if one did, the
--- address that is leased after it, and, marked as such, the one frame of its DHCP message, or none.
+-- The row of an event whose entry is this one: its time and kind, the note of the frame that arrived, if one
+-- did, the address that is leased after it, and, marked as such, the one frame of its DHCP message, or none.
 pub record IsRowOf (settings : Settings) (before : List Entry) (entry : Entry) (row : Row) : Type 0 where
   pub time : row.at ≡ pos entry.event.at
   pub kind : row.kind ≡ kind_of entry.event.arrival

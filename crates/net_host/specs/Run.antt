@@ -31,16 +31,16 @@ pub record Task : Type 0 where
 abbrev pub task_of : Settings → List ℕ → ℕ → Task
 task_of settings words max = record { settings = settings; words = words; max = max }
 
--- The events are answered: each had three words and has its row, and the capture grew by its header and the frames of the
--- rows.
+-- The events are answered: each had three words and has its row, and the capture grew by its header and the
+-- frames of the rows.
 pub record AreAnswered (task : Task) (before after : Outside) (report : List Row)
     (events : List Event) : Type 0 where
   pub enough : 3 * length events ≤ length task.words
   pub rows : AreRows task.settings task.words events report
   pub captured : Appends before.captured after.captured (run_capture events report)
 
--- A run that ended well. The source was read to its end; where it told its bytes, they were a script of these events, and
--- all of them are answered.
+-- A run that ended well. The source was read to its end; where it told its bytes, they were a script of these
+-- events, and all of them are answered.
 pub record Finished (task : Task) (before after : Outside) (report : List Row) : Type 0 where
   pub events : List Event
   pub script : IfSome before.left (λ bytes. IsScript task.max bytes events)
@@ -70,7 +70,8 @@ pub record Stopped (task : Task) (before after : Outside) (report : List Row)
   pub ends : Ends taken
   pub answered : AreAnswered task before after report taken.events
 
--- A run whose words ran out: it took one event more than are answered, and fewer than three words were left for it.
+-- A run whose words ran out: it took one event more than are answered, and fewer than three words were left
+-- for it.
 pub record RanOut (task : Task) (before after : Outside) (report : List Row) : Type 0 where
   pub taken : Taken task before after
   pub whole : taken.part ≡ []
@@ -109,8 +110,8 @@ abbrev pub HasRows : Task → List Row → List Event → Type 0
 HasRows task report events =
     AreRows task.settings task.words events report ⊎ IsUnfinished task report events
 
--- A run that stopped inside an event, or in front of the first one: it took whole events and nothing behind them, and the
--- capture is a front of that of the rows.
+-- A run that stopped inside an event, or in front of the first one: it took whole events and nothing behind
+-- them, and the capture is a front of that of the rows.
 pub record Interrupted (task : Task) (before after : Outside) (report : List Row)
     (Rows : List Event → Type 0) : Type 0 where
   pub taken : Taken task before after
@@ -139,8 +140,8 @@ pub record HasFewWords (task : Task) (before : Outside) : Type 0 where
   pub read : IfSome before.left (λ bytes.
       (front : List ℕ) × (more : List ℕ) × BeginsWith events front more bytes)
 
--- Why a run did not end well, by its answer: the bytes of the script, the words, or a count of faults that rose; want of
--- memory is free. No other count of faults changed.
+-- Why a run did not end well, by its answer: the bytes of the script, the words, or a count of faults that
+-- rose; want of memory is free. No other count of faults changed.
 abbrev pub HasCause : Task → Outside → Outside → RunError → Type 0
 HasCause task before after (Script offset) =
     IfSome before.left (λ bytes. IsBrokenAt task.max bytes offset) × IsQuiet before after
@@ -152,7 +153,8 @@ HasCause task before after Sink =
     IsRisen before.capture_faults after.capture_faults × (after.read_faults ≡ before.read_faults)
 HasCause task before after NoMemory = IsQuiet before after
 
--- A run of a valid script, with three words an event and no fault of source or capture, ends well unless memory runs out.
+-- A run of a valid script, with three words an event and no fault of source or capture, ends well unless
+-- memory runs out.
 abbrev pub Completes : Task → Outside → Outside → Result (Unit {0}) RunError → Type 0
 Completes task before after result = IfSome before.left (λ bytes. (events : List Event)
     → IsScript task.max bytes events

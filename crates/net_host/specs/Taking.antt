@@ -47,8 +47,8 @@ pub record LeavesNoRow (old new : Standing) : Type 0 where
   pub same : new.report ≡ old.report
   pub kept : Keeps old.captured new.captured
 
--- The row is placed with the address that the host held, and nothing was sent yet. The capture grew by a front of the
--- record of the frame that arrived, if one did.
+-- The row is placed with the address that the host held, and nothing was sent yet. The capture grew by a
+-- front of the record of the frame that arrived, if one did.
 pub record LeavesNewRow (at : ℤ) (event : ScriptEvent) (old new : Standing) : Type 0 where
   pub note : Option FrameNote
   pub noted : IsNoteFor (arrival_of event) note

@@ -70,8 +70,8 @@ impl<'a> Model for HostConfig<'a> {
 }
 
 impl<'a> HostConfig<'a> {
-    /// Refuses a hardware address of a group. So far a host runs by the default values of all that is not its hardware
-    /// address.
+    /// Refuses a hardware address of a group. So far a host runs by the default values of all that is not its
+    /// hardware address.
     pub fn new(values: HostValues<'a>) -> Result<HostConfig<'a>, HostConfigError>
         requires { HasDefaults (settings_of values) }
         ensures value { IfOk result (λ config. config ≡ settings_of values.entry) }

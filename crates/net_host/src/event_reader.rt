@@ -58,8 +58,9 @@ impl EventReader {
         })
     }
 
-    /// Reads the next event of a script that has at most `max_events`, and answers its head; at the end of input there is
-    /// none. All calls are told the same number and the same source, from which nothing else reads in between.
+    /// Reads the next event of a script that has at most `max_events`, and answers its head; at the end of
+    /// input there is none. All calls are told the same number and the same source, from which nothing else
+    /// reads in between.
     pub fn next<S: ScriptSource>(
         &mut self,
         source: &mut S,

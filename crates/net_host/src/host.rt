@@ -102,8 +102,8 @@ fn hear(dhcp: &mut Socket<'_>, event: ScriptEvent<'_>)
     }
 }
 
-/// Sends what the DHCP client has due; a message whose next hop is not known ends it. `word` is the id of a message that
-/// begins an exchange.
+/// Sends what the DHCP client has due; a message whose next hop is not known ends it. `word` is the id of a
+/// message that begins an exchange.
 pub(crate) fn poll_dhcp(
     dhcp: &mut Socket<'_>,
     cx: &Context,

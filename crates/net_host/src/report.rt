@@ -126,7 +126,8 @@ impl Report {
         self.rows.as_slice()
     }
 
-    /// Places the row of the next event, in which nothing was sent yet and the lease is the one held before it.
+    /// Places the row of the next event, in which nothing was sent yet and the lease is the one held before
+    /// it.
     pub(crate) fn begin(
         &mut self,
         alloc: Global,

@@ -157,7 +157,8 @@ fn capture_sent<C: PcapSink>(capture: &mut C, at: Instant, sent: &[Sent]) -> Res
     Ok(())
 }
 
-/// Takes an event in: places its row, captures the frame that arrived, sends what the event brings about, and captures that.
+/// Takes an event in: places its row, captures the frame that arrived, sends what the event brings about, and
+/// captures that.
 fn take_event<C: PcapSink>(
     host: &mut Host<'_>,
     capture: &mut C,
@@ -193,7 +194,8 @@ fn take_event<C: PcapSink>(
     Ok(())
 }
 
-/// Runs a script: answers each event as it is read, reports it and captures the frames. `words` has three words an event.
+/// Runs a script: answers each event as it is read, reports it and captures the frames. `words` has three
+/// words an event.
 pub fn run<S: ScriptSource, C: PcapSink>(
     alloc: Global,
     source: &mut S,

@@ -95,8 +95,9 @@ fn kind_named(byte: u8) -> Option<EventKind>
     }
 }
 
-/// Reads the head of the next event, which may not be before `last_micros`; at the end of input there is none. `offset` is
-/// the place of its first byte on the script, and `is_full` says that no event may come any more.
+/// Reads the head of the next event, which may not be before `last_micros`; at the end of input there is
+/// none. `offset` is the place of its first byte on the script, and `is_full` says that no event may come any
+/// more.
 pub(crate) fn read_head<S: ScriptSource>(
     source: &mut S,
     last_micros: u64,
@@ -140,8 +141,8 @@ pub(crate) fn read_head<S: ScriptSource>(
 /// The most bytes of a frame.
 pub(crate) const FRAME_LEN: usize = 65_535;
 
-/// Reads a frame and the length in front of it. The frame goes to the front of `into`; answers its length. `offset` is the
-/// place of the event's first byte on the script.
+/// Reads a frame and the length in front of it. The frame goes to the front of `into`; answers its length.
+/// `offset` is the place of the event's first byte on the script.
 fn read_frame<S: ScriptSource>(
     source: &mut S,
     offset: u64,
@@ -167,7 +168,8 @@ fn read_frame<S: ScriptSource>(
     Ok(len)
 }
 
-/// Reads what stands behind the head of an event. A frame goes to the front of `into`; answers how long it is.
+/// Reads what stands behind the head of an event. A frame goes to the front of `into`; answers how long it
+/// is.
 pub(crate) fn read_rest<S: ScriptSource>(
     source: &mut S,
     kind: EventKind,

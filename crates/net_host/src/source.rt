@@ -15,8 +15,8 @@ pub trait ScriptSource {
     /// How often a read has failed.
     ghost faults: { Self → ℕ };
 
-    /// Writes the next bytes to the front of `into`, and answers how many: 0 at the end of input. A failed read takes no
-    /// byte.
+    /// Writes the next bytes to the front of `into`, and answers how many: 0 at the end of input. A failed
+    /// read takes no byte.
     fn read(&mut self, into: &mut [u8]) -> Result<usize, ReadFault>
         requires { 0 < length into.old }
         ensures { Gave left faults result into.new self.old self.new };
