@@ -8,8 +8,6 @@ pub mod examples;
 pub mod ip;
 pub mod laws;
 pub mod net_headers;
-#[cfg(test)]
-mod tests;
 pub mod transport;
 
 pub use ip::auth::{IpAuthHeader, IpAuthHeaderSlice};

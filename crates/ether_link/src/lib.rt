@@ -11,8 +11,6 @@ pub mod layout;
 pub mod len_source;
 pub mod link;
 pub mod numbers;
-#[cfg(test)]
-mod tests;
 
 pub use known_types::ETHERNET_KNOWN_ETHER_TYPES;
 pub use layout::{PartKind, Place, Stop, Turn};

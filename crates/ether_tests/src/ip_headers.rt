@@ -1,6 +1,6 @@
 //! IP headers of known packets.
 
-use crate::{Ipv4HeaderSlice, Ipv6Header, Ipv6HeaderSlice, ip_header_len};
+use ether_ip::{Ipv4HeaderSlice, Ipv6Header, Ipv6HeaderSlice, ip_header_len};
 use ether_link::IpNumber;
 use std::net::Ipv4Addr;
 use std::test::Fail;

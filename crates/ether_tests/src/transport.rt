@@ -1,6 +1,6 @@
 //! Segments, datagrams and messages as programs send them.
 
-use crate::{
+use ether_ip::{
     IcmpEchoHeader, Icmpv4Slice, Icmpv4Type, Icmpv6Slice, Icmpv6Type, ParameterProblemCode,
     ParameterProblemHeader, RedirectCode, RedirectHeader, TcpSlice, TimestampMessage, UdpHeader,
     UdpSlice,

@@ -1,10 +1,9 @@
 //! Chains of extension headers, and all headers of a packet.
 
-use crate::err::ip::{HeaderError, LaxHeaderSliceError};
-use crate::err::ip_exts::{self, HeadersSliceError};
-use crate::err::packet::SliceError;
-use crate::err::{ip_auth, ipv6_exts};
-use crate::{IpHeaders, Ipv6ExtensionsSlice, NetHeaders, laws};
+use ether_ip::err::ip::{HeaderError, LaxHeaderSliceError};
+use ether_ip::err::ip_exts::{self, HeadersSliceError};
+use ether_ip::err::{ip_auth, ipv6_exts};
+use ether_ip::{IpHeaders, Ipv6ExtensionsSlice};
 use ether_link::err::{Layer, LenError};
 use ether_link::{IpNumber, LenSource};
 use std::test::Fail;
@@ -229,27 +228,4 @@ fn four_words_are_too_few_and_nothing_is_no_header(rt: HostRuntime) {
         IpHeaders::from_slice_lax(&[0x55]).err(),
         Some(LaxHeaderSliceError::Content(version))
     );
-}
-
-#[test]
-fn errors_of_packets_print_the_error_inside(rt: HostRuntime) -> Result<(), Fail> {
-    let late = SliceError::Ipv6Exts(ipv6_exts::HeaderError::HopByHopNotAtStart);
-    assert_eq!(rt;
-        late.to_string(rt.alloc())?.as_str(),
-        "hop-by-hop not first"
-    );
-    Ok(())
-}
-
-#[test]
-fn headers_and_laws_are_there(rt: HostRuntime) -> Result<(), Fail> {
-    let (headers, _, _) = IpHeaders::from_slice_lax(&packet(17, [0; 3]))?;
-    let IpHeaders::Ipv6(header, extensions) = headers else {
-        return Err(Fail::from("another version"));
-    };
-    let net = NetHeaders::Ipv6(header, extensions);
-    assert!(rt; matches!(net, NetHeaders::Ipv6(..)));
-    laws::packets_are_orderly();
-    laws::packets_can_be_cut();
-    Ok(())
 }

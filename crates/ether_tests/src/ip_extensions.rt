@@ -1,10 +1,10 @@
 //! Extension headers of known packets.
 
-use crate::{
+use arrayvec::ArrayVec;
+use ether_ip::{
     IpAuthHeaderSlice, IpFragId, IpFragVersionSpecId, Ipv4ExtensionsSlice, Ipv6ExtensionSlice,
     Ipv6FragmentHeaderSlice, Ipv6RawExtHeaderSlice, MAX_IP_DEFRAG_LEN, MAX_IP_DEFRAG_LEN_U16,
 };
-use arrayvec::ArrayVec;
 use ether_link::err::Layer;
 use ether_link::{IpNumber, VlanId};
 use std::test::Fail;

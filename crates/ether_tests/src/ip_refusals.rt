@@ -1,7 +1,6 @@
 //! What is refused first, and what that prints.
 
-use crate::err::{ip, ip_auth, ip_exts, ipv4, ipv6, ipv6_exts};
-use crate::{
+use ether_ip::{
     IpAuthHeaderSlice, Ipv4HeaderSlice, Ipv6FragmentHeaderSlice, Ipv6HeaderSlice,
     Ipv6RawExtHeaderSlice, ip_header_len,
 };
@@ -80,52 +79,5 @@ fn extension_headers_name_themselves(rt: HostRuntime) -> Result<(), Fail> {
         let error = error.ok_or("accepted")?;
         assert_eq!(rt; format!(in rt.alloc(); "{error}")?.as_str(), text);
     }
-    Ok(())
-}
-
-#[test]
-fn an_error_prints_the_one_inside(rt: HostRuntime) -> Result<(), Fail> {
-    let no_length = ip_auth::HeaderError::ZeroPayloadLen;
-    let late = ipv6_exts::HeaderError::HopByHopNotAtStart;
-    let version = ip::HeaderError::UnsupportedIpVersion { version_number: 0 };
-    let alloc = rt.alloc();
-    for (printed, text) in [
-        (
-            format!(in alloc; "{}", ipv4::SliceError::Exts(no_length))?,
-            "auth length 0",
-        ),
-        (
-            format!(in alloc; "{}", ipv6::SliceError::Exts(late))?,
-            "hop-by-hop not first",
-        ),
-        (
-            format!(in alloc;
-                "{}",
-                ip_exts::HeaderError::Ipv6Ext(ipv6_exts::HeaderError::IpAuth(no_length))
-            )?,
-            "auth length 0",
-        ),
-        (
-            format!(in alloc;
-                "{}",
-                ip::SliceError::IpHeaders(ip::HeadersError::Ip(version))
-            )?,
-            "ip version 0",
-        ),
-    ] {
-        assert_eq!(rt; printed.as_str(), text);
-    }
-    Ok(())
-}
-
-#[test]
-fn only_a_length_has_a_place(rt: HostRuntime) -> Result<(), Fail> {
-    let short = ip_header_len(&[]).err().ok_or("accepted")?;
-    let ip::LaxHeaderSliceError::Len(error) = short.add_slice_offset(14) else {
-        return Err("no length".into());
-    };
-    assert_eq!(rt; error.layer_start_offset, 14);
-    let wrong = ip_header_len(&[0x41]).err().ok_or("accepted")?;
-    assert_eq!(rt; wrong.add_slice_offset(14), wrong);
     Ok(())
 }

@@ -1,13 +1,15 @@
 //! Parts of frames against bytes from outside.
 
-use crate::err::linux_sll::{HeaderError as LinuxSllError, HeaderSliceError as LinuxSllSliceError};
-use crate::err::macsec::{HeaderError as MacsecError, HeaderSliceError as MacsecSliceError};
-use crate::err::{Layer, LenError};
-use crate::{
+use ether_link::err::linux_sll::{
+    HeaderError as LinuxSllError, HeaderSliceError as LinuxSllSliceError,
+};
+use ether_link::err::macsec::{HeaderError as MacsecError, HeaderSliceError as MacsecSliceError};
+use ether_link::err::{Layer, LenError};
+use ether_link::{
     ArpHardwareId, ArpOperation, ArpPacketSlice, DoubleVlanHeader, DoubleVlanSlice,
-    ETHERNET_KNOWN_ETHER_TYPES, EtherType, Ethernet2Slice, LenSource, LinkExtHeader, LinkHeader,
-    LinkSlice, LinuxSllProtocolType, LinuxSllSlice, MacsecHeaderSlice, MacsecPType,
-    MacsecPayloadSlice, SingleVlanHeader, SingleVlanSlice, VlanHeader, VlanId, VlanSlice, laws,
+    ETHERNET_KNOWN_ETHER_TYPES, EtherType, Ethernet2Slice, LenSource, LinkHeader, LinkSlice,
+    LinuxSllProtocolType, LinuxSllSlice, MacsecHeaderSlice, MacsecPType, SingleVlanSlice,
+    VlanHeader, VlanId, VlanSlice,
 };
 use std::test::Fail;
 
@@ -60,6 +62,7 @@ fn an_arp_request_reads_as_sent(rt: HostRuntime) -> Result<(), Fail> {
     );
     let link = LinkSlice::Ethernet2(frame);
     assert_eq!(rt; link.slice(), ARP_FRAME.as_slice());
+    assert_eq!(rt; link.payload(), &ARP_FRAME[14..]);
     let header = link.to_header().ok_or("a frame has a header")?;
     assert!(rt;
         matches!(header, LinkHeader::Ethernet2(fields) if fields.ether_type == EtherType::ARP)
@@ -234,55 +237,6 @@ fn cooked_packets_say_what_they_carry(rt: HostRuntime) -> Result<(), Fail> {
         Some(LinuxSllSliceError::Content(error))
     );
     Ok(())
-}
-
-#[test]
-fn errors_print_their_texts(rt: HostRuntime) -> Result<(), Fail> {
-    let alloc = rt.alloc();
-    let too_few = LenError::at_start(Layer::UdpHeader, LenSource::Slice, 2, 8);
-    assert_eq!(rt;
-        too_few.to_string(alloc)?.as_str(),
-        "udp: 8 bytes needed, 2 there"
-    );
-    let hardware = LinuxSllError::UnsupportedArpHardwareId {
-        arp_hardware_type: ArpHardwareId(6),
-    };
-    assert_eq!(rt;
-        LinuxSllSliceError::Content(hardware)
-            .to_string(alloc)?
-            .as_str(),
-        "linux sll hardware type 6"
-    );
-    assert_eq!(rt;
-        MacsecError::UnexpectedVersion.to_string(alloc)?.as_str(),
-        "macsec version bit set"
-    );
-    assert_eq!(rt; too_few.add_offset(34).layer_start_offset, 34);
-    Ok(())
-}
-
-#[test]
-fn plain_values_are_there(rt: HostRuntime) {
-    assert_eq!(rt; ETHERNET_KNOWN_ETHER_TYPES.len(), 7);
-    assert_eq!(rt; ArpOperation::from(2), ArpOperation::REPLY);
-    assert_eq!(rt;
-        LinkExtHeader::default(),
-        LinkExtHeader::Vlan(SingleVlanHeader::default())
-    );
-    assert_eq!(rt; SingleVlanSlice::default().slice(), [0; 4].as_slice());
-    assert!(rt; MacsecPayloadSlice::Modified(&[1]) < MacsecPayloadSlice::Modified(&[2]));
-}
-
-#[test]
-fn laws_can_be_called() {
-    laws::some_layout::<LenError>(&ARP_FRAME);
-    laws::one_layout::<LenError>(&ARP_FRAME);
-    laws::layouts_are_nested::<LenError>(&ARP_FRAME);
-    laws::link_parts_are_orderly::<LenError>();
-    laws::same_part::<LenError>(&ARP_FRAME, 20);
-    laws::kept_part::<LenError>(&ARP_FRAME, 20);
-    laws::layout_in_place::<LenError>(&ARP_FRAME, 14, 42);
-    laws::cut_law::<LenError>(&ARP_FRAME, 20);
 }
 
 /// RFC 7042, appendix B; IEEE 802.1Q; IEEE 802.1AE; RFC 826.
