@@ -5,6 +5,7 @@ pub mod CutLemmas
 pub mod CutPacketLemmas
 pub mod CutResultLemmas
 pub mod FoundLemmas
+pub mod HeldLemmas
 pub mod IpLemmas
 pub mod MacsecLemmas
 pub mod MapLemmas

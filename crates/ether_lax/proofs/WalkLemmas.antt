@@ -1,6 +1,6 @@
 -- What a walk along the parts of a packet knows.
-use Rattle.std.proofs.Common.{◌≡◌, ℕ, ◌+◌, ◌<◌, ◌≤◌, Bool, true, false, List, [], ◌∷◌, ◌++◌, length, Option, Some, None, refl, sym, ap, ◌∙◌, arith}
-use Rattle.std.specs.Prelude.{◌==◌, ◌&&◌, ◌||◌, nat_lt, if◌then◌else◌, slice_range, slice_index, option_and_then}
+use Rattle.std.proofs.Common.{◌≡◌, ℕ, ◌+◌, Bool, true, false, List, [], ◌∷◌, ◌++◌, length, Option, Some, None, refl, sym, ap, ◌∙◌, arith}
+use Rattle.std.specs.Prelude.{◌==◌, ◌&&◌, nat_lt, if◌then◌else◌, slice_range, slice_index, option_and_then}
 use Rattle.std.proofs.lemmas.Bool.Decides.{nat_tests}
 use Rattle.std.proofs.lemmas.List.{append-nil, append_assoc}
 use Rattle.wire_base.specs.Bytes.{be16_at}
@@ -20,8 +20,8 @@ use Rattle.ether_link.specs.declared.layout.Turn.{Turn}
 use Rattle.ether_link.specs.declared.numbers.EtherType.{EtherType}
 use Rattle.ether_link.proofs.LayoutLemmas.{some}
 use Rattle.ether_link.proofs.WalkLemmas.{IsWalk, begun, one_more, ended, stopped}
-use Rattle.ether_ip.specs.ExtensionGrammar.{extension_kind, first_extension_kind, fragmented_behind, kind_behind, turn_to}
-use Rattle.ether_ip.specs.Held.{no_extensions, is_taken, with_header, held_by, free_places, free_stop}
+use Rattle.ether_ip.specs.ExtensionGrammar.{extension_kind, first_extension_kind, fragmented_behind, turn_to}
+use Rattle.ether_ip.specs.Held.{no_extensions, is_taken, with_header, held_by}
 use Rattle.ether_ip.specs.IpHeaders.{is_ipv4, number_in, extension_in, is_fragment_in}
 use Rattle.ether_ip.specs.PacketGrammar.{packet_grammar, part_turn, transport_kind}
 use Rattle.ether_ip.specs.declared.err.packet.SliceError.{SliceError}
@@ -29,7 +29,7 @@ use Rattle.ether_ip.specs.declared.ip.ext_places.ExtensionPlaces.{ExtensionPlace
 use Rattle.ether_ip.proofs.PacketLemmas.{packets_orderly}
 use Rattle.ether_lax.specs.Found.{Parts, no_parts, with_part, parts_of}
 use Rattle.ether_lax.specs.Parts.{part_at}
-use Rattle.ether_lax.specs.Steps.{MayStandBehind, TellsCount, count_behind, IsBetween}
+use Rattle.ether_lax.specs.Steps.{MayStandBehind, TellsCount, count_behind}
 use Rattle.ether_lax.specs.Walks.{kept_from, stop_from, kept_places, kept_stop, IsWalked}
 use Rattle.ether_lax.proofs.FoundLemmas.{parts_behind-one_more, held_with, count_with}
 
@@ -61,7 +61,7 @@ by_protocol (Some (protocol.Ignored number)) = tt
 by_protocol None = tt
 
 -- a kind that may stand behind any link extensions
-abbrev IsAbove : Option PartKind → Type 0
+abbrev pub IsAbove : Option PartKind → Type 0
 IsAbove None = Unit {0}
 IsAbove (Some part) = (count : ℕ) → MayStandBehind part count
 
@@ -77,7 +77,7 @@ above_extension number =
     (above_either (number == 60) _ _ (λ count. tt)
     (above_either (number == 51) _ _ (λ count. tt) tt))))
 
-above_first : (number : ℕ) → IsAbove (first_extension_kind number)
+pub above_first : (number : ℕ) → IsAbove (first_extension_kind number)
 above_first number = above_either (number == 0) _ _ (λ count. tt) (above_extension number)
 
 above_in : (header : List ℕ) → IsAbove (extension_in header)
@@ -98,7 +98,7 @@ first_turn : (count : ℕ) (x y : Option Turn) → TellsCount count x → TellsC
 first_turn count None y a b = b
 first_turn count (Some turn) y a b = a
 
-by_number : (count : ℕ) (fragmented : Bool) (extension : Option PartKind) (number : ℕ) → IsAbove extension
+pub by_number : (count : ℕ) (fragmented : Bool) (extension : Option PartKind) (number : ℕ) → IsAbove extension
     → TellsCount count (part_turn count fragmented extension number)
 by_number count fragmented extension number above =
     first_turn count (turn_to count fragmented extension) (if fragmented then None else turn_to count false (transport_kind number))

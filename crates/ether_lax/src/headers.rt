@@ -55,7 +55,7 @@ pub(crate) fn headers<'a>(
 
 /// The fields of link extensions.
 #[tactic(auto, using(crate::proofs::FoundLemmas::headers_more, crate::proofs::FoundLemmas::headers_len))]
-fn ext_headers(exts: &[LaxLinkExtSlice<'_>]) -> ArrayVec<LinkExtHeader, 3>
+pub(crate) fn ext_headers(exts: &[LaxLinkExtSlice<'_>]) -> ArrayVec<LinkExtHeader, 3>
     requires { length exts.now ≤ 3 }
     ensures { result.items ≡ map header_of_ext (map ext_in exts.now) }
 {
@@ -93,7 +93,7 @@ fn net_headers(
 }
 
 /// The header of the transport layer.
-fn transport_header(transport: &Option<TransportSlice<'_>>) -> Option<TransportHeader>
+pub(crate) fn transport_header(transport: &Option<TransportSlice<'_>>) -> Option<TransportHeader>
     ensures { result ≡ option_map header_of_transport transport.now }
 {
     match transport {

@@ -2,6 +2,7 @@
 //! dissection.
 #![tactic(auto)]
 
+mod agreement;
 pub mod ether_payload;
 pub mod examples;
 mod found;
@@ -25,6 +26,7 @@ pub mod step;
 mod stops;
 mod walk;
 
+pub use agreement::agrees;
 pub use ether_ip::LaxIpPayloadSlice;
 pub use ether_ip::err::ip::LaxHeaderSliceError;
 pub use ether_payload::LaxEtherPayloadSlice;

@@ -210,7 +210,7 @@ pub fn by_ether_type(link_exts: u8, number: u16) -> Option<Turn>
 
 /// The part that a number names: an extension header, or else the transport header, unless the packet
 /// carries a fragment.
-fn part_turn(
+pub(crate) fn part_turn(
     link_exts: u8,
     fragmented: bool,
     extension: Option<PartKind>,
