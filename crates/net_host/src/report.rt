@@ -28,7 +28,7 @@ pub enum Mark {
 }
 
 /// A frame that was sent.
-#[derive(Clone, Debug, Drop)]
+#[derive(Clone, Debug, Drop, PartialEq, Eq)]
 pub struct Sent {
     pub mark: Mark,
     pub frame: FrameBytes,
@@ -80,8 +80,29 @@ impl SentList {
     }
 }
 
+impl PartialEq for SentList {
+    ghost use Rattle.std.specs.Cmp.Lexicographic.{pointwise};
+    ghost use Rattle.std.specs.Cmp.Rules.{comparing};
+    ghost use Rattle.std.proofs.Common.{rules};
+
+    ghost eq = { pointwise ⟦<Sent as PartialEq>⟧.eq };
+
+    ghost laws = { Prim.search (comparing, rules) };
+
+    fn eq(&self, other: &SentList) -> bool {
+        self.sent == other.sent
+    }
+}
+
+impl Eq for SentList {
+    ghost use Rattle.std.specs.Cmp.Rules.{comparing};
+    ghost use Rattle.std.proofs.Common.{rules};
+
+    ghost laws = { Prim.search (comparing, rules) };
+}
+
 /// What an event brought about.
-#[derive(Clone, Debug, Drop)]
+#[derive(Clone, Debug, Drop, PartialEq, Eq)]
 pub struct Row {
     /// The time of the event.
     pub at: Instant,
@@ -107,6 +128,26 @@ impl Model for Report {
     ghost Value = { List Row };
 
     ghost view = { λ report. report.rows.items };
+}
+
+impl PartialEq for Report {
+    ghost use Rattle.std.specs.Cmp.Lexicographic.{pointwise, lists_per};
+    ghost use Rattle.net_host.specs.contracts.report.RowPartialEq.TheImpl.Laws.{laws-law};
+
+    ghost eq = { pointwise ⟦<Row as PartialEq>⟧.eq };
+
+    ghost laws = { lists_per laws-law };
+
+    fn eq(&self, other: &Report) -> bool {
+        self.rows == other.rows
+    }
+}
+
+impl Eq for Report {
+    ghost use Rattle.std.specs.Cmp.Lexicographic.{lists_equiv};
+    ghost use Rattle.net_host.specs.contracts.report.RowEq.TheImpl.Laws.{laws-law};
+
+    ghost laws = { lists_equiv laws-law };
 }
 
 impl Report {
