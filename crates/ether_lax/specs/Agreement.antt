@@ -80,7 +80,7 @@ AgreeStops None None = Unit {0}
 AgreeStops (Some stop) (Some other) = (sourceless stop.0 ≡ sourceless other.0) × (stop.1 ≡ other.1)
 AgreeStops stop other = ⊥
 
--- the headers of all layers are the same, and the stops
+-- the headers of link extensions, of the network and of the transport layer are the same, and the stops
 pub record Agree (parts : SlicedParts) (headers : HeaderParts) : Type 0 where
   pub exts : map header_of_ext parts.exts ≡ headers.exts
   pub net : AgreeNets parts.net headers.net

@@ -66,12 +66,14 @@ HasUdpWindow = ends Udp (udp 12 3 ∷ udp 12 4 ∷ udp 12 5 ∷ udp 7 5 ∷ udp 
 
 -- an IPv6 packet with a fragment header that more fragments follow, and three bytes of destination options
 abbrev pub cut_fragment : List ℕ
-cut_fragment = 0x60 ∷ 0 ∷ 0 ∷ 0 ∷ 0 ∷ 11 ∷ 44 ∷ 64 ∷ replicate 32 0 ++ 60 ∷ 0 ∷ 0 ∷ 1 ∷ 0 ∷ 0 ∷ 0 ∷ 0 ∷ 59 ∷ 0 ∷ 0 ∷ []
+cut_fragment =
+    0x60 ∷ 0 ∷ 0 ∷ 0 ∷ 0 ∷ 11 ∷ 44 ∷ 64 ∷ replicate 32 0 ++ 60 ∷ 0 ∷ 0 ∷ 1 ∷ 0 ∷ 0 ∷ 0 ∷ 0 ∷ 59 ∷ 0 ∷ 0 ∷ []
 
 -- a refused extension header is the stop, behind a fragment header too (RFC 8200, section 4.5)
 abbrev pub StopsBehindFragment : Type 0
 StopsBehindFragment = IsLayoutFrom packet_grammar cut_fragment (begins_with Ip) 0 51
-    (record { kind = Ip; start = 0; body = 40; end = 51 } ∷ record { kind = Fragment; start = 40; body = 48; end = 51 } ∷ [])
+    (record { kind = Ip; start = 0; body = 40; end = 51 }
+    ∷ record { kind = Fragment; start = 40; body = 48; end = 51 } ∷ [])
     (Some (record {
       kind = DestinationOptions;
       start = 48;
@@ -91,5 +93,6 @@ encrypted = replicate 12 0 ++ 0x88 ∷ 0xe5 ∷ 0x0c ∷ 0 ∷ 0 ∷ 0 ∷ 0 ∷
 -- a changed or encrypted payload ends a layout (IEEE 802.1AE, section 9.5)
 abbrev pub EndsEncrypted : Type 0
 EndsEncrypted = IsLayoutFrom packet_grammar encrypted (begins_with Ethernet2) 0 42
-    (record { kind = Ethernet2; start = 0; body = 14; end = 42 } ∷ record { kind = Macsec; start = 14; body = 20; end = 42 } ∷ [])
+    (record { kind = Ethernet2; start = 0; body = 14; end = 42 }
+    ∷ record { kind = Macsec; start = 14; body = 20; end = 42 } ∷ [])
     None

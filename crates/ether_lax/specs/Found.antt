@@ -20,9 +20,9 @@ use Rattle.ether_lax.specs.declared.found.FoundIp.{FoundIp}
 use Rattle.ether_lax.specs.declared.found.IpHeader.{IpHeader}
 use Rattle.ether_lax.specs.declared.found.IpHeader.TheVariants as version
 
--- the link extensions, the source of the windows behind them, and whether the last one lacks bytes and what it
--- carries; an ARP packet; an IP header and how far its extension headers reach, and these in their places; the
--- part of the transport layer; and the last part of all
+-- the link extensions, the source of the windows behind them, and whether the last one lacks bytes and what
+-- it carries; an ARP packet; an IP header and how far its extension headers reach, and these in their places;
+-- the part of the transport layer; and the last part of all
 pub record Parts : Type 0 where
   pub exts : List LinkExtPart
   pub link_source : LenSource

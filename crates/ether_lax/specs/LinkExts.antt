@@ -1,5 +1,5 @@
--- Link extensions, as values: a tag, or a security tag with its payload (IEEE 802.1Q, section 9.6; IEEE 802.1AE,
--- section 9).
+-- Link extensions, as values: a tag, or a security tag with its payload (IEEE 802.1Q, section 9.6; IEEE
+-- 802.1AE, section 9).
 use Rattle.std.specs.Prelude.{ℕ, Bool, true, false, if◌then◌else◌, List, length, drop, Option, Some, None}
 use Rattle.wire_base.specs.Bytes.{be16_at}
 use Rattle.ether_link.specs.Macsec.{macsec_next_ether_type, macsec_header}

@@ -11,7 +11,8 @@ use Rattle.ether_lax.specs.Parts.{window_at, source_at, is_incomplete}
 -- the tag at a place, and the payload in its window
 abbrev pub macsec_at : List ℕ → Place → LinkExtPart
 macsec_at frame place =
-    macsec_part (header_at frame place) (is_incomplete frame place) (source_at frame place) (window_at frame place)
+    macsec_part (header_at frame place) (is_incomplete frame place) (source_at frame place)
+    (window_at frame place)
 
 -- the tag that some bytes begin with
 abbrev pub macsec_of : List ℕ → LinkExtPart

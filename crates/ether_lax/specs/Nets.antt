@@ -10,8 +10,8 @@ use Rattle.ether_lax.specs.declared.ipv6.LaxIpv6Slice.{LaxIpv6Slice}
 use Rattle.ether_lax.specs.declared.ip.LaxIpSlice as ip
 use Rattle.ether_lax.specs.declared.net.LaxNetSlice as net
 
--- the payload of an IP packet: whether bytes are missing, what it holds, whether it is a fragment, where its end
--- is from, and its bytes
+-- the payload of an IP packet: whether bytes are missing, what it holds, whether it is a fragment, where its
+-- end is from, and its bytes
 pub record IpPayloadPart : Type 0 where
   pub incomplete : Bool
   pub number : IpNumber
@@ -19,8 +19,8 @@ pub record IpPayloadPart : Type 0 where
   pub source : LenSource
   pub bytes : List ℕ
 
--- the extension headers behind an IPv6 header: the number of the first, whether the packet carries a fragment, and
--- their bytes
+-- the extension headers behind an IPv6 header: the number of the first, whether the packet carries a
+-- fragment, and their bytes
 pub record ChainPart : Type 0 where
   pub first : Option IpNumber
   pub fragmented : Bool
@@ -44,7 +44,11 @@ payload_of_ip payload = record {
 
 abbrev pub chain_in : Ipv6ExtensionsSlice → ChainPart
 chain_in exts =
-    record { first = first_header_of exts; fragmented = is_fragmenting exts; bytes = bytes_of_extensions exts }
+    record {
+      first = first_header_of exts;
+      fragmented = is_fragmenting exts;
+      bytes = bytes_of_extensions exts;
+    }
 
 abbrev pub ipv4_bytes : LaxIpv4Slice → List ℕ
 ipv4_bytes packet = packet.header

@@ -1,5 +1,5 @@
--- What a host looks for in a packet that carries no tag: an ARP packet, or a whole UDP datagram right behind
--- an IPv4 header (RFC 826; RFC 791; RFC 768).
+-- What a host looks for in a packet without link extensions: an ARP packet, or a whole UDP datagram right
+-- behind an IPv4 header (RFC 826; RFC 791; RFC 768).
 use Rattle.std.specs.Prelude.{ℕ, ◌==◌, Bool, true, false, ◌&&◌, if◌then◌else◌, List, [], ◌∷◌, length, Option, Some, None}
 use Rattle.wire_base.specs.Bytes.{be16_at}
 use Rattle.ether_link.specs.declared.len_source.LenSource.{LenSource}

@@ -43,8 +43,8 @@ pub record IsBetween (start end : ℕ) (place : Place) : Type 0 where
   pub window : place.body ≤ place.end
   pub within : place.end ≤ end
 
--- the part whose turn it is, in the bytes of a frame from `start` to `end`, where it lies, what it says of its
--- window, and what it names
+-- the part whose turn it is, in the bytes of a frame from `start` to `end`, where it lies, what it says of
+-- its window, and what it names
 pub record IsStep (frame : List ℕ) (turn : Turn) (start end : ℕ) (place : Place) (part : Part)
     (source : LenSource) (incomplete : Bool) (next : Option Turn) : Type 0 where
   pub place_is : place ≡ place_of packet_grammar turn.kind (slice_range frame start end) start end

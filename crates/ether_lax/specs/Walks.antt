@@ -1,5 +1,5 @@
--- The walk along the parts of a packet, in two shapes: along all of them, or up to an extension header whose place
--- is taken.
+-- The walk along the parts of a packet, in two shapes: along all of them, or up to an extension header whose
+-- place is taken.
 use Rattle.std.specs.Prelude.{◌≡◌, ℕ, ◌<◌, ◌≤◌, Bool, if◌then◌else◌, List, length, Option, Some, None}
 use Rattle.ether_link.specs.Layout.{IsLayoutFrom}
 use Rattle.ether_link.specs.declared.len_source.LenSource.{LenSource}

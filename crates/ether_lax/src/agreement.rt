@@ -23,8 +23,9 @@ use ether_ip::{
 use ether_link::err::{Layer, LenError};
 use ether_link::{IpNumber, LinkExtHeader, MacsecHeader, Place, Turn};
 
-/// What both hold agrees: the headers of all layers, the chain of an IPv6 packet with each header in its
-/// place and none left out, and the stops but for the source of a length.
+/// What both hold agrees: the headers of link extensions, of the network and of the transport layer, the
+/// chain of an IPv6 packet with each header in its place and none left out, and the stops but for the
+/// source of a length. The link header and payloads are not compared.
 pub fn agrees(packet: &LaxSlicedPacket<'_>, headers: &LaxPacketHeaders<'_>) -> bool
     ensures value { IsTrue result ↔ Agree (sliced_in packet.now) (headers_in headers.now) }
 {

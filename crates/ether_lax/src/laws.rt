@@ -28,8 +28,9 @@ pub fn cut_frames_keep_their_front(frame: &[u8], n: usize)
 {}
 
 /// The two dissectors agree on a frame, from every start, where each extension header of the layout, and
-/// the refused one, finds its place free: equal headers of all layers, equal bytes behind the transport
-/// header or else the same IP payload, and the same stop but for the source of a length.
+/// the refused one, finds its place free: equal headers of link extensions, of the network and of the
+/// transport layer, equal bytes behind the transport header or else the same IP payload, and the same stop
+/// but for the source of a length.
 pub fn dissectors_agree(frame: &[u8])
     ensures { (first : Option Turn) (start : Carried) (packet : LaxSlicedPacket) (headers : LaxPacketHeaders)
         → HoldsLayout frame.now first packet → HoldsHeaders frame.now first start headers

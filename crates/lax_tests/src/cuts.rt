@@ -4,7 +4,7 @@ use crate::frames::{AUTHENTICATED, CHAIN, DNS, SECURED};
 use crate::stops::front;
 use ether_ip::err::packet::SliceError;
 use ether_ip::{NetHeaders, TransportHeader, TransportSlice};
-use ether_lax::{LaxLinkExtSlice, LaxNetSlice, LaxPacketHeaders, LaxSlicedPacket};
+use ether_lax::{LaxLinkExtSlice, LaxNetSlice, LaxPacketHeaders, LaxSlicedPacket, agrees};
 use ether_link::LinkExtHeader;
 use ether_link::err::Layer;
 use std::test::Fail;
@@ -82,8 +82,8 @@ fn same_stop(stop: &Option<(SliceError, Layer)>, other: &Option<(SliceError, Lay
     }
 }
 
-/// The headers of a cut frame are a front of those of the whole frame, and its last window is one of
-/// that window's.
+/// The headers of a cut frame, extension headers aside, are those of the whole frame as far as it has
+/// them, and its transport payload begins that of the whole.
 fn is_front(cut: &LaxSlicedPacket<'_>, whole: &LaxSlicedPacket<'_>) -> bool {
     let exts = whole.link_exts.as_slice();
     if exts.len() < cut.link_exts.len() {
@@ -123,8 +123,10 @@ fn each_length_of_a_frame_has_a_front_of_its_parts(rt: HostRuntime) -> Result<()
             let cut = front(frame, len);
             assert!(rt; is_same(cut), "{len}");
             if len >= 14 {
-                let cut = LaxSlicedPacket::from_ethernet(cut)?;
-                assert!(rt; is_front(&cut, &whole), "{len}");
+                let sliced = LaxSlicedPacket::from_ethernet(cut)?;
+                let headers = LaxPacketHeaders::from_ethernet(cut)?;
+                assert!(rt; agrees(&sliced, &headers), "{len}");
+                assert!(rt; is_front(&sliced, &whole), "{len}");
             }
         }
     }

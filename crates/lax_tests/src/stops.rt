@@ -26,7 +26,7 @@ fn lack(stop: &Option<(SliceError, Layer)>) -> Option<(Lack, Layer)> {
     }
 }
 
-/// The first bytes of a frame, and those behind the Ethernet header.
+/// The first bytes of a frame, or all of it.
 pub(crate) fn front(frame: &[u8], len: usize) -> &[u8] {
     if len < frame.len() {
         &frame[..len]

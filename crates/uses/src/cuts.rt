@@ -10,8 +10,8 @@ ghost use Rattle.ether_lax.specs.Steps.{begins_with};
 use ether_lax::{LaxPacketHeaders, LaxSlicedPacket, agrees};
 use ether_link::err::LenError;
 
-/// The packet of the first `n` bytes of a frame, and that of all bytes: the first one's parts are a
-/// front of the second one's.
+/// The packet of the first `n` bytes of a frame, and that of all bytes: ICMP messages aside, the first one's
+/// parts are a front of the second one's.
 pub fn kept_and_whole(
     frame: &[u8],
     n: usize,
