@@ -26,7 +26,7 @@ SpellsArrival Tick rest = rest ≡ []
 SpellsArrival Reset rest = rest ≡ []
 SpellsArrival (Frame bytes) rest = rest ≡ to_be_bytes w16 (length bytes) ++ bytes
 
--- what can be spelled: lengths and texts in their ranges
+-- what can be spelled: a frame whose length has two bytes
 abbrev pub IsArrival : Arrival → Type 0
 IsArrival Tick = ⊤
 IsArrival Reset = ⊤

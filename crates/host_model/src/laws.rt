@@ -24,12 +24,13 @@ pub fn no_event_is_refused()
     ensures { NoEventIsRefused }
 {}
 
-/// A list of ticks is a script of them and of nothing else, whatever other events there are.
+/// A list of ticks whose times are in range and never fall, at most as many as there may be, is a script of
+/// them and of no other events.
 pub fn ticks_are_scripts()
     ensures { TicksAreScripts }
 {}
 
-/// After a reset the client has sent nothing: its message is due at once, and the timeout counts from that.
+/// Closed examples: the event of a reset sends at once, and the timeout counts from its message.
 pub fn resets_send_at_once()
     ensures at_reset { SendsAtReset }
     ensures at_each { SendsAtEachReset }

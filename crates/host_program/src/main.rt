@@ -1,5 +1,5 @@
-//! The program: it reads a script from standard input, writes what the host sends to `capture.pcap`, and
-//! prints what it did.
+//! The program: it reads a script from standard input, writes the frames that arrive and those that the host
+//! sends to `capture.pcap`, and prints what it did.
 #![tactic(auto)]
 
 mod capture_file;

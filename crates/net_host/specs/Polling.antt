@@ -24,7 +24,7 @@ pub data Polled : Context → ℕ → Client → Emitter → Client → Emitter 
       → Dispatched TakesMessage RefusesMessage (plan_for client cx word) (Err Unresolved) client next out later
       → Polled cx word client out next later
 
--- the client has no offer and no lease: as long as no frame arrives, it discovers
+-- the client has no offer and no lease: as long as it hears no frame, it discovers
 abbrev pub IsDiscovering : ClientState → Type 0
 IsDiscovering (Discovering retry_at) = ⊤
 IsDiscovering (Requesting retry_at retry server requested) = ⊥

@@ -1,4 +1,4 @@
-//! The events of a script (docs/FORMATS.md), and how the head of one is read.
+//! The events of a script (docs/FORMATS.md), and how the parts of one are read.
 ghost use Rattle.std.specs.Prelude.{◌≡◌, ℕ, ◌<◌, ◌≤◌, true, false, List, length, IfOk, IfErr, IfSome, IfNone, OnOk};
 ghost use Rattle.std.specs.Result.{IsErrOf};
 ghost use Rattle.std.specs.Io.KnownBytes.{Consumes, IsAtEnd};

@@ -21,7 +21,7 @@ pub fn follow(socket: &mut Socket<'_>, held: &mut Option<Ipv4Cidr>)
     }
 }
 
-/// Gives the lease up: no address is held, and the client discovers at once.
+/// Gives the lease up: where there was one, no address is held any more. The client is due at moment 0.
 pub fn give_up(socket: &mut Socket<'_>, held: &mut Option<Ipv4Cidr>)
     ensures gone { has_lease socket.old.state ≡ true → held.new ≡ None }
     ensures due { poll_at_of socket.new.state ≡ pos 0 }

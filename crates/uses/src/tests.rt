@@ -1,4 +1,4 @@
-//! Each caller once on bytes from outside.
+//! Callers on bytes from outside.
 use crate::{dissection, headers, leases, runs, sums};
 use dhcp_client::Socket;
 use net_wire::{Context, EthernetAddress, Instant, Ipv4Address, Ipv4Cidr};
