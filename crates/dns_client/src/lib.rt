@@ -14,8 +14,6 @@ mod response;
 mod slots;
 mod socket;
 mod start;
-#[cfg(test)]
-mod tests;
 
 pub use emit::DnsEmit;
 pub use error::{GetQueryResultError, StartQueryError};

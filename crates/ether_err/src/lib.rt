@@ -18,8 +18,6 @@ mod read_header;
 mod read_reader;
 mod read_slice;
 pub mod tcp;
-#[cfg(test)]
-mod tests;
 
 pub use from_slice_error::FromSliceError;
 pub use io_fault::{IoFault, IoKind};

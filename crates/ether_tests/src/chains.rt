@@ -32,13 +32,12 @@ fn destination_options_have_a_place_on_each_side_of_routing(rt: HostRuntime) -> 
     ] {
         let bytes = packet(first, named);
         let (_, payload, stop) = IpHeaders::from_slice_lax(&bytes)?;
-        assert_eq!(rt;
-            64 - payload.payload.len(),
-            payload_start,
+        assert!(rt;
+            64 - payload.payload.len() == payload_start
+                && payload.ip_number == IpNumber(number)
+                && stop == None,
             "{first} {named:?}"
         );
-        assert_eq!(rt; payload.ip_number, IpNumber(number), "{first} {named:?}");
-        assert_eq!(rt; stop, None, "{first} {named:?}");
     }
     let bytes = packet(60, [43, 60, 17]);
     let (headers, _, _) = IpHeaders::from_slice_lax(&bytes)?;
@@ -47,9 +46,9 @@ fn destination_options_have_a_place_on_each_side_of_routing(rt: HostRuntime) -> 
     };
     assert!(rt; extensions.destination_options.is_some());
     let routing = extensions.routing.ok_or("no routing header")?;
-    assert_eq!(rt; routing.routing.next_header, IpNumber(60));
+    assert!(rt; routing.routing.next_header == IpNumber(60));
     let options = routing.final_destination_options.ok_or("no options")?;
-    assert_eq!(rt; options.payload.as_slice(), [0; 6].as_slice());
+    assert!(rt; options.payload.as_slice() == [0; 6].as_slice());
     Ok(())
 }
 
@@ -59,31 +58,25 @@ fn hop_by_hop_options_stand_first_or_nowhere(rt: HostRuntime) -> Result<(), Fail
     let late = ipv6_exts::HeaderError::HopByHopNotAtStart;
     let layer = Layer::Ipv6HopByHopHeader;
     let (_, payload, stop) = IpHeaders::from_slice_lax(&bytes)?;
-    assert_eq!(rt;
-        (payload.ip_number, payload.payload.len()),
-        (IpNumber(0), 16)
-    );
+    assert!(rt; (payload.ip_number, payload.payload.len()) == (IpNumber(0), 16));
     let headers_error = HeadersSliceError::Content(ip_exts::HeaderError::Ipv6Ext(late));
-    assert_eq!(rt; stop, Some((headers_error, layer)));
+    assert!(rt; stop == Some((headers_error, layer)));
     let (extensions, number, rest, stop) = Ipv6ExtensionsSlice::from_slice_lax(
         IpNumber(60),
         &bytes[40..],
     );
-    assert_eq!(rt; extensions.first_header(), Some(IpNumber(60)));
-    assert_eq!(rt;
-        (extensions.slice().len(), number, rest.len()),
-        (8, IpNumber(0), 16)
-    );
-    assert_eq!(rt;
-        stop,
-        Some((ipv6_exts::HeaderSliceError::Content(late), layer))
+    assert!(rt;
+        extensions.first_header() == Some(IpNumber(60))
+            && (extensions.slice().len(), number, rest.len()) == (8, IpNumber(0), 16)
+            && stop == Some((ipv6_exts::HeaderSliceError::Content(late), layer))
     );
     let (extensions, number, rest, stop) = Ipv6ExtensionsSlice::from_slice_lax(
         IpNumber(17),
         &bytes[40..],
     );
-    assert_eq!(rt; extensions.first_header(), None);
-    assert_eq!(rt; (number, rest.len(), stop), (IpNumber(17), 24, None));
+    assert!(rt;
+        extensions.first_header() == None && (number, rest.len(), stop) == (IpNumber(17), 24, None)
+    );
     Ok(())
 }
 
@@ -95,8 +88,9 @@ fn chains_go_on_behind_a_fragment_header(rt: HostRuntime) -> Result<(), Fail> {
         IpNumber(44),
         &bytes[40..],
     );
-    assert!(rt; extensions.is_fragmenting_payload());
-    assert_eq!(rt; (number, rest.len(), stop), (IpNumber(17), 8, None));
+    assert!(rt;
+        extensions.is_fragmenting_payload() && (number, rest.len(), stop) == (IpNumber(17), 8, None)
+    );
     let (_, payload, _) = IpHeaders::from_slice_lax(&bytes)?;
     assert!(rt; payload.fragmented);
     bytes[43] = 0;
@@ -119,13 +113,9 @@ fn a_refused_header_is_counted_from_the_packet(rt: HostRuntime) -> Result<(), Fa
         layer_start_offset: 48,
     };
     let (_, payload, stop) = IpHeaders::from_slice_lax(&bytes)?;
-    assert_eq!(rt;
-        stop,
-        Some((HeadersSliceError::Len(error), Layer::Ipv6RouteHeader))
-    );
-    assert_eq!(rt;
-        (payload.ip_number, payload.payload.len()),
-        (IpNumber(43), 8)
+    assert!(rt;
+        stop == Some((HeadersSliceError::Len(error), Layer::Ipv6RouteHeader))
+            && (payload.ip_number, payload.payload.len()) == (IpNumber(43), 8)
     );
     let (_, _, _, stop) = Ipv6ExtensionsSlice::from_slice_lax(IpNumber(60), &bytes[40..56]);
     let error = LenError {
@@ -133,9 +123,8 @@ fn a_refused_header_is_counted_from_the_packet(rt: HostRuntime) -> Result<(), Fa
         layer_start_offset: 8,
         ..error
     };
-    assert_eq!(rt;
-        stop,
-        Some((
+    assert!(rt;
+        stop == Some((
             ipv6_exts::HeaderSliceError::Len(error),
             Layer::Ipv6RouteHeader
         ))
@@ -155,39 +144,27 @@ fn ipv4_reads_one_authentication_header(rt: HostRuntime) -> Result<(), Fail> {
     let IpHeaders::Ipv4(_, extensions) = headers else {
         return Err(Fail::from("another version"));
     };
-    assert!(rt; extensions.auth.is_some());
-    assert_eq!(rt;
-        (payload.ip_number, payload.payload.len()),
-        (IpNumber(51), 12)
+    assert!(rt;
+        extensions.auth.is_some()
+            && (payload.ip_number, payload.payload.len()) == (IpNumber(51), 12)
+            && (payload.len_source, payload.incomplete) == (LenSource::Ipv4HeaderTotalLen, false)
+            && stop == None
     );
-    assert_eq!(rt;
-        (payload.len_source, payload.incomplete),
-        (LenSource::Ipv4HeaderTotalLen, false)
-    );
-    assert_eq!(rt; stop, None);
     bytes[21] = 0;
     let (_, payload, stop) = IpHeaders::from_slice_lax(&bytes)?;
-    assert_eq!(rt;
-        (payload.ip_number, payload.payload.len()),
-        (IpNumber(51), 24)
-    );
+    assert!(rt; (payload.ip_number, payload.payload.len()) == (IpNumber(51), 24));
     let content = ip_exts::HeaderError::Ipv4Ext(ip_auth::HeaderError::ZeroPayloadLen);
-    assert_eq!(rt;
-        stop,
-        Some((HeadersSliceError::Content(content), Layer::IpAuthHeader))
-    );
+    assert!(rt; stop == Some((HeadersSliceError::Content(content), Layer::IpAuthHeader)));
     bytes[3] = 49;
     let (_, payload, _) = IpHeaders::from_slice_lax(&bytes)?;
-    assert_eq!(rt;
-        (payload.len_source, payload.incomplete),
-        (LenSource::Slice, true),
+    assert!(rt;
+        (payload.len_source, payload.incomplete) == (LenSource::Slice, true),
         "one byte is missing"
     );
     bytes[3] = 19;
     let (_, payload, _) = IpHeaders::from_slice_lax(&bytes)?;
-    assert_eq!(rt;
-        (payload.len_source, payload.incomplete),
-        (LenSource::Slice, false),
+    assert!(rt;
+        (payload.len_source, payload.incomplete) == (LenSource::Slice, false),
         "a total length of no meaning"
     );
     Ok(())
@@ -199,33 +176,24 @@ fn an_empty_payload_may_be_told_or_not(rt: HostRuntime) -> Result<(), Fail> {
     bytes[5] = 0;
     let (header, one_more) = (&bytes[..40], &bytes[..41]);
     let (_, payload, _) = IpHeaders::from_slice_lax(header)?;
-    assert_eq!(rt;
-        (payload.payload.len(), payload.len_source),
-        (0, LenSource::Ipv6HeaderPayloadLen)
+    assert!(rt;
+        (payload.payload.len(), payload.len_source) == (0, LenSource::Ipv6HeaderPayloadLen)
     );
     let (_, payload, _) = IpHeaders::from_slice_lax(one_more)?;
-    assert_eq!(rt;
-        (payload.payload.len(), payload.len_source),
-        (1, LenSource::Slice)
-    );
+    assert!(rt; (payload.payload.len(), payload.len_source) == (1, LenSource::Slice));
     Ok(())
 }
 
 #[test]
 fn four_words_are_too_few_and_nothing_is_no_header(rt: HostRuntime) {
     let few = HeaderError::Ipv4HeaderLengthSmallerThanHeader { ihl: 4 };
-    assert_eq!(rt;
-        IpHeaders::from_slice_lax(&[0x44]).err(),
-        Some(LaxHeaderSliceError::Content(few))
+    assert!(rt;
+        IpHeaders::from_slice_lax(&[0x44]).err() == Some(LaxHeaderSliceError::Content(few))
     );
     let none = LenError::at_start(Layer::IpHeader, LenSource::Slice, 0, 1);
-    assert_eq!(rt;
-        IpHeaders::from_slice_lax(&[]).err(),
-        Some(LaxHeaderSliceError::Len(none))
-    );
+    assert!(rt; IpHeaders::from_slice_lax(&[]).err() == Some(LaxHeaderSliceError::Len(none)));
     let version = HeaderError::UnsupportedIpVersion { version_number: 5 };
-    assert_eq!(rt;
-        IpHeaders::from_slice_lax(&[0x55]).err(),
-        Some(LaxHeaderSliceError::Content(version))
+    assert!(rt;
+        IpHeaders::from_slice_lax(&[0x55]).err() == Some(LaxHeaderSliceError::Content(version))
     );
 }

@@ -24,15 +24,13 @@ const ROUTING: [u8; 8] = [59, 2, 2, 1, 0, 0, 0, 0];
 #[test]
 fn a_check_value_of_96_bits_has_length_4(rt: HostRuntime) -> Result<(), Fail> {
     let auth = IpAuthHeaderSlice::from_slice(&AUTH).ok().ok_or("refused")?;
-    assert_eq!(rt; auth.slice(), AUTH.as_slice());
-    assert_eq!(rt; auth.icv(), &AUTH[12..]);
+    assert!(rt; auth.slice() == AUTH.as_slice() && auth.icv() == &AUTH[12..]);
     let extensions = Ipv4ExtensionsSlice { auth: Some(auth) };
     let fields = extensions.to_header().auth.ok_or("no header")?;
-    assert_eq!(rt;
-        (fields.next_header, fields.spi, fields.sequence_number),
-        (IpNumber(1), 256, 9)
+    assert!(rt;
+        (fields.next_header, fields.spi, fields.sequence_number) == (IpNumber(1), 256, 9)
+            && fields.icv.len() == 12
     );
-    assert_eq!(rt; fields.icv.len(), 12);
     Ok(())
 }
 
@@ -41,16 +39,17 @@ fn lengths_count_eight_bytes(rt: HostRuntime) -> Result<(), Fail> {
     let mut packet = [0; 32];
     packet[..8].copy_from_slice(&ROUTER_ALERT);
     let options = Ipv6RawExtHeaderSlice::from_slice(IpNumber(0), &packet)?;
-    assert_eq!(rt; options.to_header().next_header, IpNumber(58));
-    assert_eq!(rt; options.payload(), &ROUTER_ALERT[2..]);
-    assert_eq!(rt; Ipv6ExtensionSlice::HopByHop(options).slice().len(), 8);
+    assert!(rt;
+        options.to_header().next_header == IpNumber(58)
+            && options.payload() == &ROUTER_ALERT[2..]
+            && Ipv6ExtensionSlice::HopByHop(options).slice().len() == 8
+    );
     packet[..8].copy_from_slice(&ROUTING);
     let routing = Ipv6RawExtHeaderSlice::from_slice(IpNumber(43), &packet)?;
-    assert_eq!(rt;
-        (routing.next_header(), routing.header_len()),
-        (IpNumber(59), 24)
+    assert!(rt;
+        (routing.next_header(), routing.header_len()) == (IpNumber(59), 24)
+            && routing.to_header().payload.len() == 22
     );
-    assert_eq!(rt; routing.to_header().payload.len(), 22);
     Ok(())
 }
 
@@ -63,9 +62,8 @@ fn a_length_error_names_the_layer_of_the_number(rt: HostRuntime) {
         (135, Layer::Ipv6DestOptionsHeader),
     ] {
         let refusal = Ipv6RawExtHeaderSlice::from_slice(IpNumber(number), &ROUTING[..7]);
-        assert_eq!(rt;
-            refusal.err().map(|error| error.layer),
-            Some(layer),
+        assert!(rt;
+            refusal.err().map(|error| error.layer) == Some(layer),
             "number {number}"
         );
     }
@@ -86,19 +84,11 @@ fn fragments_count_eight_bytes(rt: HostRuntime) -> Result<(), Fail> {
         ];
         let fragment = Ipv6FragmentHeaderSlice::from_slice(&bytes)?;
         let fields = fragment.to_header();
-        assert_eq!(rt;
-            (fields.next_header, fields.identification),
-            (IpNumber(17), 0xdead_beef)
-        );
-        assert_eq!(rt;
-            u32::from(fields.fragment_offset) * 8,
-            offset,
-            "for {start:?}"
-        );
-        assert_eq!(rt; fields.more_fragments, more, "for {start:?}");
-        assert_eq!(rt;
-            fragment.is_fragmenting_payload(),
-            fragmented,
+        assert!(rt;
+            (fields.next_header, fields.identification) == (IpNumber(17), 0xdead_beef)
+                && u32::from(fields.fragment_offset) * 8 == offset
+                && fields.more_fragments == more
+                && fragment.is_fragmenting_payload() == fragmented,
             "for {start:?}"
         );
     }
@@ -126,14 +116,14 @@ where
 
 #[test]
 fn fragments_of_two_channels_differ(rt: HostRuntime) -> Result<(), Fail> {
-    assert!(rt; id_of(()).clone()? == id_of(()));
-    assert!(rt; id_of(1u8).clone()? == id_of(1));
-    assert!(rt; id_of(1u8) != id_of(2));
+    assert!(rt;
+        id_of(()).clone()? == id_of(()) && id_of(1u8).clone()? == id_of(1) && id_of(1u8) != id_of(2)
+    );
     Ok(())
 }
 
 /// The length fields of both versions have 16 bits.
 #[test]
 fn a_packet_has_at_most_65535_bytes(rt: HostRuntime) {
-    assert_eq!(rt; (MAX_IP_DEFRAG_LEN, MAX_IP_DEFRAG_LEN_U16), (65535, 65535));
+    assert!(rt; (MAX_IP_DEFRAG_LEN, MAX_IP_DEFRAG_LEN_U16) == (65535, 65535));
 }

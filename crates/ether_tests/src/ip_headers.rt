@@ -26,19 +26,21 @@ fn a_datagram_has_its_fields(rt: HostRuntime) -> Result<(), Fail> {
     let header = Ipv4HeaderSlice::from_slice(&DATAGRAM)
         .ok()
         .ok_or("refused")?;
-    assert_eq!(rt;
-        (header.version(), header.ihl(), header.header_len()),
-        (4, 5, 20)
+    assert!(rt;
+        (header.version(), header.ihl(), header.header_len()) == (4, 5, 20)
+            && header.header_checksum() == 0xb861
+            && header.source_addr() == Ipv4Addr::new(192, 168, 0, 1)
+            && header.destination_addr() == Ipv4Addr::new(192, 168, 0, 199)
+            && !header.is_fragmenting_payload()
     );
-    assert_eq!(rt; header.header_checksum(), 0xb861);
-    assert_eq!(rt; header.source_addr(), Ipv4Addr::new(192, 168, 0, 1));
-    assert_eq!(rt; header.destination_addr(), Ipv4Addr::new(192, 168, 0, 199));
-    assert!(rt; !header.is_fragmenting_payload());
     let fields = header.to_header();
-    assert_eq!(rt; (fields.total_len, fields.identification), (115, 0));
-    assert_eq!(rt; (fields.time_to_live, fields.protocol), (64, IpNumber(17)));
-    assert!(rt; fields.dont_fragment && !fields.more_fragments);
-    assert!(rt; fields.options.is_empty());
+    assert!(rt;
+        (fields.total_len, fields.identification) == (115, 0)
+            && (fields.time_to_live, fields.protocol) == (64, IpNumber(17))
+            && fields.dont_fragment
+            && !fields.more_fragments
+            && fields.options.is_empty()
+    );
     Ok(())
 }
 
@@ -46,13 +48,16 @@ fn a_datagram_has_its_fields(rt: HostRuntime) -> Result<(), Fail> {
 fn options_are_part_of_the_header(rt: HostRuntime) -> Result<(), Fail> {
     let mut packet = [0; 32];
     packet[..24].copy_from_slice(&REPORT);
-    assert_eq!(rt; ip_header_len(&packet).ok(), Some(24));
+    assert!(rt; ip_header_len(&packet).ok() == Some(24));
     let header = Ipv4HeaderSlice::from_slice(&packet).ok().ok_or("refused")?;
-    assert_eq!(rt; header.slice(), REPORT.as_slice());
-    assert_eq!(rt; header.options(), [0x94, 4, 0, 0].as_slice());
+    assert!(rt;
+        header.slice() == REPORT.as_slice() && header.options() == [0x94, 4, 0, 0].as_slice()
+    );
     let fields = header.to_header();
-    assert_eq!(rt; (fields.dscp, fields.ecn), (48, 0));
-    assert_eq!(rt; fields.options.as_slice(), [0x94, 4, 0, 0].as_slice());
+    assert!(rt;
+        (fields.dscp, fields.ecn) == (48, 0)
+            && fields.options.as_slice() == [0x94, 4, 0, 0].as_slice()
+    );
     Ok(())
 }
 
@@ -71,10 +76,8 @@ fn fragments_are_told_from_datagrams(rt: HostRuntime) -> Result<(), Fail> {
         bytes[6] = flags[0];
         bytes[7] = flags[1];
         let header = Ipv4HeaderSlice::from_slice(&bytes).ok().ok_or("refused")?;
-        assert_eq!(rt; header.fragment_offset(), offset, "for {flags:?}");
-        assert_eq!(rt;
-            header.is_fragmenting_payload(),
-            fragmented,
+        assert!(rt;
+            header.fragment_offset() == offset && header.is_fragmenting_payload() == fragmented,
             "for {flags:?}"
         );
     }
@@ -88,22 +91,15 @@ fn an_ipv6_header_has_its_fields(rt: HostRuntime) -> Result<(), Fail> {
     packet[8] = 0xfe;
     packet[9] = 0x80;
     packet[39] = 0x16;
-    assert_eq!(rt; ip_header_len(&packet).ok(), Some(Ipv6Header::LEN));
+    assert!(rt; ip_header_len(&packet).ok() == Some(Ipv6Header::LEN));
     let header = Ipv6HeaderSlice::from_slice(&packet).ok().ok_or("refused")?;
-    assert_eq!(rt; (header.version(), header.header_len()), (6, 40));
+    assert!(rt; (header.version(), header.header_len()) == (6, 40));
     let fields = header.to_header();
-    assert_eq!(rt;
-        (fields.traffic_class, fields.flow_label),
-        (46 << 2, 0x2_3456)
+    assert!(rt;
+        (fields.traffic_class, fields.flow_label) == (46 << 2, 0x2_3456)
+            && (fields.payload_length, fields.next_header, fields.hop_limit) == (36, IpNumber(0), 1)
+            && (fields.source[0], fields.source[1], fields.source[15]) == (0xfe, 0x80, 0)
+            && (fields.destination[0], fields.destination[15]) == (0, 0x16)
     );
-    assert_eq!(rt;
-        (fields.payload_length, fields.next_header, fields.hop_limit),
-        (36, IpNumber(0), 1)
-    );
-    assert_eq!(rt;
-        (fields.source[0], fields.source[1], fields.source[15]),
-        (0xfe, 0x80, 0)
-    );
-    assert_eq!(rt; (fields.destination[0], fields.destination[15]), (0, 0x16));
     Ok(())
 }

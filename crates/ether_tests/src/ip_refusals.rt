@@ -19,7 +19,7 @@ fn the_version_and_ihl_come_before_a_length(rt: HostRuntime) -> Result<(), Fail>
     ] {
         let bytes = [byte; 40];
         let error = ip_header_len(&bytes[..count]).err().ok_or("accepted")?;
-        assert_eq!(rt; format!(in rt.alloc(); "{error}")?.as_str(), text);
+        assert!(rt; format!(in rt.alloc(); "{error}")?.as_str() == text);
     }
     Ok(())
 }
@@ -36,7 +36,7 @@ fn a_length_comes_before_the_version_and_ihl(rt: HostRuntime) -> Result<(), Fail
         let error = Ipv4HeaderSlice::from_slice(&bytes[..count])
             .err()
             .ok_or("accepted")?;
-        assert_eq!(rt; format!(in rt.alloc(); "{error}")?.as_str(), text);
+        assert!(rt; format!(in rt.alloc(); "{error}")?.as_str() == text);
     }
     for (byte, count, text) in [
         (0x54, 39, "ipv6: 40 bytes needed, 39 there"),
@@ -46,7 +46,7 @@ fn a_length_comes_before_the_version_and_ihl(rt: HostRuntime) -> Result<(), Fail
         let error = Ipv6HeaderSlice::from_slice(&bytes[..count])
             .err()
             .ok_or("accepted")?;
-        assert_eq!(rt; format!(in rt.alloc(); "{error}")?.as_str(), text);
+        assert!(rt; format!(in rt.alloc(); "{error}")?.as_str() == text);
     }
     Ok(())
 }
@@ -62,7 +62,7 @@ fn extension_headers_name_themselves(rt: HostRuntime) -> Result<(), Fail> {
         let error = IpAuthHeaderSlice::from_slice(&bytes[..count])
             .err()
             .ok_or("accepted")?;
-        assert_eq!(rt; format!(in rt.alloc(); "{error}")?.as_str(), text);
+        assert!(rt; format!(in rt.alloc(); "{error}")?.as_str() == text);
     }
     let hop_by_hop = Ipv6RawExtHeaderSlice::from_slice(IpNumber(0), &[1; 8]);
     let route = Ipv6RawExtHeaderSlice::from_slice(IpNumber(43), &[1; 7]);
@@ -77,7 +77,7 @@ fn extension_headers_name_themselves(rt: HostRuntime) -> Result<(), Fail> {
         ),
     ] {
         let error = error.ok_or("accepted")?;
-        assert_eq!(rt; format!(in rt.alloc(); "{error}")?.as_str(), text);
+        assert!(rt; format!(in rt.alloc(); "{error}")?.as_str() == text);
     }
     Ok(())
 }

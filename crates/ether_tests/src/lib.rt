@@ -1,8 +1,11 @@
-//! Parts of frames and packets against bytes from outside: the tests of `ether_link` and `ether_ip`.
+//! Parts of frames and packets against bytes from outside: the tests of `ether_link`,
+//! `ether_ip` and `ether_err`.
 #![tactic(auto)]
 
 #[cfg(test)]
 mod chains;
+#[cfg(test)]
+mod errors;
 #[cfg(test)]
 mod ip_extensions;
 #[cfg(test)]

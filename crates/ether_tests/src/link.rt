@@ -39,30 +39,23 @@ const COOKED: [u8; 18] = [
 #[test]
 fn an_arp_request_reads_as_sent(rt: HostRuntime) -> Result<(), Fail> {
     let frame = Ethernet2Slice::from_slice_without_fcs(&ARP_FRAME)?;
-    assert_eq!(rt; frame.destination(), [0xff; 6]);
-    assert_eq!(rt; frame.source(), [0x02, 0x00, 0x5e, 0x10, 0x00, 0x01]);
+    assert!(rt;
+        frame.destination() == [0xff; 6] && frame.source() == [0x02, 0x00, 0x5e, 0x10, 0x00, 0x01]
+    );
     let payload = frame.payload();
-    assert_eq!(rt; payload.ether_type, EtherType::ARP);
+    assert!(rt; payload.ether_type == EtherType::ARP);
     let packet = ArpPacketSlice::from_slice(payload.payload)?.to_header();
-    assert_eq!(rt; packet.hw_addr_type, ArpHardwareId::ETHERNET);
-    assert_eq!(rt; packet.proto_addr_type, EtherType::IPV4);
-    assert_eq!(rt; packet.operation, ArpOperation::REQUEST);
-    assert_eq!(rt;
-        packet.sender_hw_addr.as_slice(),
-        [0x02, 0x00, 0x5e, 0x10, 0x00, 0x01].as_slice()
+    assert!(rt;
+        packet.hw_addr_type == ArpHardwareId::ETHERNET
+            && packet.proto_addr_type == EtherType::IPV4
+            && packet.operation == ArpOperation::REQUEST
+            && packet.sender_hw_addr.as_slice() == [0x02, 0x00, 0x5e, 0x10, 0x00, 0x01].as_slice()
+            && packet.sender_protocol_addr.as_slice() == [10, 0, 0, 1].as_slice()
+            && packet.target_hw_addr.as_slice() == [0; 6].as_slice()
     );
-    assert_eq!(rt;
-        packet.sender_protocol_addr.as_slice(),
-        [10, 0, 0, 1].as_slice()
-    );
-    assert_eq!(rt; packet.target_hw_addr.as_slice(), [0; 6].as_slice());
-    assert_eq!(rt;
-        packet.target_protocol_addr.as_slice(),
-        [10, 0, 0, 2].as_slice()
-    );
+    assert!(rt; packet.target_protocol_addr.as_slice() == [10, 0, 0, 2].as_slice());
     let link = LinkSlice::Ethernet2(frame);
-    assert_eq!(rt; link.slice(), ARP_FRAME.as_slice());
-    assert_eq!(rt; link.payload(), &ARP_FRAME[14..]);
+    assert!(rt; link.slice() == ARP_FRAME.as_slice() && link.payload() == &ARP_FRAME[14..]);
     let header = link.to_header().ok_or("a frame has a header")?;
     assert!(rt;
         matches!(header, LinkHeader::Ethernet2(fields) if fields.ether_type == EtherType::ARP)
@@ -80,7 +73,7 @@ fn arp_addresses_may_reach_past_the_slice(rt: HostRuntime) {
         layer: Layer::Arp,
         layer_start_offset: 0,
     };
-    assert_eq!(rt; ArpPacketSlice::from_slice(shorter).err(), Some(error));
+    assert!(rt; ArpPacketSlice::from_slice(shorter).err() == Some(error));
 }
 
 #[test]
@@ -90,56 +83,53 @@ fn tags_hold_priority_and_network(rt: HostRuntime) -> Result<(), Fail> {
     let outer = SingleVlanSlice::from_slice(&bytes)?;
     let inner = SingleVlanSlice::from_slice(outer.payload().payload)?;
     let outer_header = outer.to_header();
-    assert_eq!(rt;
-        (outer_header.pcp, outer_header.drop_eligible_indicator),
-        (5, false)
+    assert!(rt;
+        (outer_header.pcp, outer_header.drop_eligible_indicator) == (5, false)
+            && outer_header.vlan_id.value() == 100
+            && outer_header.ether_type == EtherType::VLAN_TAGGED_FRAME
     );
-    assert_eq!(rt; outer_header.vlan_id.value(), 100);
-    assert_eq!(rt; outer_header.ether_type, EtherType::VLAN_TAGGED_FRAME);
     let inner_header = inner.to_header();
-    assert_eq!(rt;
-        (inner_header.pcp, inner_header.drop_eligible_indicator),
-        (0, true)
+    assert!(rt;
+        (inner_header.pcp, inner_header.drop_eligible_indicator) == (0, true)
+            && inner_header.vlan_id.value() == VlanId::MAX
     );
-    assert_eq!(rt; inner_header.vlan_id.value(), VlanId::MAX);
     let both = VlanSlice::DoubleVlan(DoubleVlanSlice { outer, inner });
-    assert_eq!(rt; both.slice(), bytes.as_slice());
-    assert_eq!(rt; both.payload().payload, [0x60].as_slice());
+    assert!(rt; both.slice() == bytes.as_slice() && both.payload().payload == [0x60].as_slice());
     let headers = DoubleVlanHeader {
         outer: outer_header,
         inner: inner_header,
     };
-    assert_eq!(rt; both.to_header(), VlanHeader::Double(headers));
-    assert_eq!(rt; VlanId::try_new(4096), None);
+    assert!(rt; both.to_header() == VlanHeader::Double(headers) && VlanId::try_new(4096) == None);
     Ok(())
 }
 
 #[test]
 fn security_tags_of_the_standard_read(rt: HostRuntime) -> Result<(), Fail> {
     let tag = MacsecHeaderSlice::from_slice(&INTEGRITY_TAG)?;
-    assert_eq!(rt; tag.slice().len(), 16);
+    assert!(rt; tag.slice().len() == 16);
     let header = tag.to_header();
-    assert_eq!(rt; header.ptype, MacsecPType::Unmodified(EtherType::IPV4));
-    assert_eq!(rt;
-        (
-            header.endstation_id,
-            header.scb,
-            header.an,
-            header.short_len
-        ),
-        (false, false, 2, 42)
+    assert!(rt;
+        header.ptype == MacsecPType::Unmodified(EtherType::IPV4)
+            && (
+                header.endstation_id,
+                header.scb,
+                header.an,
+                header.short_len
+            ) == (false, false, 2, 42)
+            && header.packet_nr == 0xb2c28465
+            && header.sci == Some(0x12153524c0895e81)
+            && tag.expected_payload_len() == Some(40)
     );
-    assert_eq!(rt; header.packet_nr, 0xb2c28465);
-    assert_eq!(rt; header.sci, Some(0x12153524c0895e81));
-    assert_eq!(rt; tag.expected_payload_len(), Some(40));
     let tag = MacsecHeaderSlice::from_slice(&CONFIDENTIALITY_TAG)?;
     let header = tag.to_header();
-    assert_eq!(rt; header.ptype, MacsecPType::Encrypted);
-    assert_eq!(rt; (header.endstation_id, header.an), (true, 0));
-    assert_eq!(rt; header.packet_nr, 0x76d457ed);
-    assert_eq!(rt; header.sci, None);
-    assert_eq!(rt; tag.expected_payload_len(), Some(42));
-    assert_eq!(rt; tag.next_ether_type(), None);
+    assert!(rt;
+        header.ptype == MacsecPType::Encrypted
+            && (header.endstation_id, header.an) == (true, 0)
+            && header.packet_nr == 0x76d457ed
+            && header.sci == None
+            && tag.expected_payload_len() == Some(42)
+            && tag.next_ether_type() == None
+    );
     Ok(())
 }
 
@@ -156,22 +146,19 @@ fn security_tags_are_refused_in_turn(rt: HostRuntime) {
     let version = MacsecSliceError::Content(MacsecError::UnexpectedVersion);
     let one_byte = MacsecSliceError::Content(MacsecError::InvalidUnmodifiedShortLen);
     let refusal = |bytes: &[u8]| MacsecHeaderSlice::from_slice(bytes).err();
-    assert_eq!(rt; refusal(&[0x80; 5]), Some(wrong_len(5, 6)));
-    assert_eq!(rt;
-        refusal(&[0x80; 6]),
-        Some(version),
+    assert!(rt;
+        refusal(&[0x80; 5]) == Some(wrong_len(5, 6))
+            && refusal(&[0x80; 6]) == Some(version)
+            && refusal(&INTEGRITY_TAG[..15]) == Some(wrong_len(15, 16)),
         "the version goes before the whole length"
     );
-    assert_eq!(rt; refusal(&INTEGRITY_TAG[..15]), Some(wrong_len(15, 16)));
-    assert_eq!(rt;
-        refusal(&[0, 1, 0, 0, 0, 0]),
-        Some(wrong_len(6, 8)),
+    assert!(rt;
+        refusal(&[0, 1, 0, 0, 0, 0]) == Some(wrong_len(6, 8))
+            && refusal(&[0, 1, 0, 0, 0, 0, 8, 0]) == Some(one_byte),
         "and that before the short length"
     );
-    assert_eq!(rt; refusal(&[0, 1, 0, 0, 0, 0, 8, 0]), Some(one_byte));
-    assert_eq!(rt;
-        refusal(&[4, 1, 0, 0, 0, 0]),
-        None,
+    assert!(rt;
+        refusal(&[4, 1, 0, 0, 0, 0]) == None,
         "a changed payload may have one byte"
     );
 }
@@ -180,19 +167,12 @@ fn security_tags_are_refused_in_turn(rt: HostRuntime) {
 fn cooked_packets_say_what_they_carry(rt: HostRuntime) -> Result<(), Fail> {
     let packet = LinuxSllSlice::from_slice(&COOKED)?;
     let header = packet.to_header();
-    assert_eq!(rt;
-        (header.packet_type, header.sender_address_valid_length),
-        (0, 6)
+    assert!(rt;
+        (header.packet_type, header.sender_address_valid_length) == (0, 6)
+            && header.sender_address == [0x00, 0x1b, 0x21, 0x3c, 0x9d, 0xf8, 0x00, 0x00]
+            && header.protocol_type == LinuxSllProtocolType::EtherType(EtherType::IPV4)
+            && packet.payload().payload == [0x45, 0x00].as_slice()
     );
-    assert_eq!(rt;
-        header.sender_address,
-        [0x00, 0x1b, 0x21, 0x3c, 0x9d, 0xf8, 0x00, 0x00]
-    );
-    assert_eq!(rt;
-        header.protocol_type,
-        LinuxSllProtocolType::EtherType(EtherType::IPV4)
-    );
-    assert_eq!(rt; packet.payload().payload, [0x45, 0x00].as_slice());
     for (high, low, want) in [
         (
             0x03,
@@ -222,9 +202,8 @@ fn cooked_packets_say_what_they_carry(rt: HostRuntime) -> Result<(), Fail> {
         bytes[2] = high;
         bytes[3] = low;
         let read = LinuxSllSlice::from_slice(&bytes).ok();
-        assert_eq!(rt;
-            read.map(|packet| packet.protocol_type()),
-            want,
+        assert!(rt;
+            read.map(|packet| packet.protocol_type()) == want,
             "hardware {high} {low}"
         );
     }
@@ -232,9 +211,8 @@ fn cooked_packets_say_what_they_carry(rt: HostRuntime) -> Result<(), Fail> {
     bytes[1] = 5;
     bytes[3] = 6;
     let error = LinuxSllError::UnsupportedPacketTypeField { packet_type: 5 };
-    assert_eq!(rt;
-        LinuxSllSlice::from_slice(&bytes).err(),
-        Some(LinuxSllSliceError::Content(error))
+    assert!(rt;
+        LinuxSllSlice::from_slice(&bytes).err() == Some(LinuxSllSliceError::Content(error))
     );
     Ok(())
 }
@@ -251,12 +229,13 @@ fn numbers_are_the_registered_ones(rt: HostRuntime) {
         (EtherType::MACSEC, 0x88e5),
         (EtherType::VLAN_DOUBLE_TAGGED_FRAME, 0x9100),
     ] {
-        assert_eq!(rt; ether_type.0, number);
         assert!(rt;
-            ETHERNET_KNOWN_ETHER_TYPES.contains(&ether_type),
+            ether_type.0 == number && ETHERNET_KNOWN_ETHER_TYPES.contains(&ether_type),
             "{number:x}"
         );
     }
-    assert_eq!(rt; ETHERNET_KNOWN_ETHER_TYPES.len(), 7);
-    assert_eq!(rt; (ArpOperation::REQUEST.0, ArpOperation::REPLY.0), (1, 2));
+    assert!(rt;
+        ETHERNET_KNOWN_ETHER_TYPES.len() == 7
+            && (ArpOperation::REQUEST.0, ArpOperation::REPLY.0) == (1, 2)
+    );
 }

@@ -32,14 +32,15 @@ const PING: [u8; 16] = [
 fn reads_the_first_segment_of_a_browser(rt: HostRuntime) -> Result<(), Fail> {
     let segment = TcpSlice::from_slice(&SYN)?;
     let header = segment.to_header();
-    assert_eq!(rt; (header.source_port, header.destination_port), (3372, 80));
-    assert_eq!(rt; header.sequence_number, 951057939);
-    assert_eq!(rt; header.acknowledgment_number, 0);
-    assert_eq!(rt; segment.data_offset(), 7);
-    assert_eq!(rt; (header.syn, header.ack), (true, false));
-    assert_eq!(rt; (header.window_size, header.checksum), (8760, 0xc30c));
-    assert_eq!(rt; header.options.as_slice(), &SYN[20..]);
-    assert_eq!(rt; segment.payload().len(), 0);
+    assert!(rt;
+        (header.source_port, header.destination_port) == (3372, 80)
+            && header.sequence_number == 951057939
+            && header.acknowledgment_number == 0
+            && segment.data_offset() == 7
+            && (header.syn, header.ack) == (true, false)
+            && (header.window_size, header.checksum) == (8760, 0xc30c)
+    );
+    assert!(rt; header.options.as_slice() == &SYN[20..] && segment.payload().len() == 0);
     Ok(())
 }
 
@@ -67,7 +68,7 @@ fn names_each_control_bit(rt: HostRuntime) -> Result<(), Fail> {
             header.syn, header.fin,
         ];
         let set = drawn.map(|bits| bits == (offset_and_ns, flags));
-        assert_eq!(rt; read, set, "at {flags}");
+        assert!(rt; read == set, "at {flags}");
     }
     Ok(())
 }
@@ -81,20 +82,18 @@ fn leaves_the_padding_of_a_query(rt: HostRuntime) -> Result<(), Fail> {
         length: 25,
         checksum: 0,
     };
-    assert_eq!(rt; datagram.to_header(), header);
-    assert_eq!(rt; datagram.payload(), &QUERY[8..25]);
+    assert!(rt; datagram.to_header() == header && datagram.payload() == &QUERY[8..25]);
     Ok(())
 }
 
 #[test]
 fn reads_a_ping(rt: HostRuntime) -> Result<(), Fail> {
     let message = Icmpv4Slice::from_slice(&PING)?;
-    assert_eq!(rt;
-        message.icmp_type(),
-        Icmpv4Type::EchoRequest(IcmpEchoHeader { id: 1, seq: 1 })
+    assert!(rt;
+        message.icmp_type() == Icmpv4Type::EchoRequest(IcmpEchoHeader { id: 1, seq: 1 })
+            && message.header().checksum == 0x4d5a
+            && message.payload() == b"abcdefgh".as_slice()
     );
-    assert_eq!(rt; message.header().checksum, 0x4d5a);
-    assert_eq!(rt; message.payload(), b"abcdefgh".as_slice());
     Ok(())
 }
 
@@ -116,7 +115,7 @@ fn names_messages(rt: HostRuntime) -> Result<(), Fail> {
         ([5, 1, 0, 0, 192, 0, 2, 1], Icmpv4Type::Redirect(redirect)),
         ([3, 1, 0, 0, 0, 0, 0, 0], unreachable),
     ] {
-        assert_eq!(rt; Icmpv4Slice::from_slice(&bytes)?.icmp_type(), icmp_type);
+        assert!(rt; Icmpv4Slice::from_slice(&bytes)?.icmp_type() == icmp_type);
     }
     Ok(())
 }
@@ -136,8 +135,9 @@ fn reads_a_timestamp_reply(rt: HostRuntime) -> Result<(), Fail> {
         transmit_timestamp: 43_200_001,
     };
     let message = Icmpv4Slice::from_slice(&bytes)?;
-    assert_eq!(rt; message.icmp_type(), Icmpv4Type::TimestampReply(times));
-    assert_eq!(rt; message.payload().len(), 0);
+    assert!(rt;
+        message.icmp_type() == Icmpv4Type::TimestampReply(times) && message.payload().len() == 0
+    );
     Ok(())
 }
 
@@ -164,10 +164,7 @@ fn names_messages_of_version_6(rt: HostRuntime) -> Result<(), Fail> {
         ([129, 0, 0, 0, 0, 2, 0, 3], Icmpv6Type::EchoReply(echo)),
         ([135, 0, 0, 0, 0, 0, 0, 0], solicitation),
     ] {
-        assert_eq!(rt;
-            Icmpv6Slice::from_slice(&bytes)?.header().icmp_type,
-            icmp_type
-        );
+        assert!(rt; Icmpv6Slice::from_slice(&bytes)?.header().icmp_type == icmp_type);
     }
     Ok(())
 }

@@ -4,5 +4,3 @@
 pub mod ah;
 pub mod esp;
 pub mod laws;
-#[cfg(test)]
-mod tests;

@@ -1,9 +1,15 @@
 //! What stops a dissection, in both dissectors and from each start.
 
 use crate::frames::*;
+use ether_ip::err::ip::HeaderError::{Ipv4HeaderLengthSmallerThanHeader, UnsupportedIpVersion};
+use ether_ip::err::ip_auth::HeaderError::ZeroPayloadLen;
+use ether_ip::err::ipv6_exts::HeaderError::{HopByHopNotAtStart, IpAuth};
 use ether_ip::err::packet::SliceError;
+use ether_ip::err::packet::SliceError::{Ip, Ipv4Exts, Ipv6Exts, Macsec};
+use ether_ip::err::tcp::HeaderError::DataOffsetTooSmall;
 use ether_lax::{LaxPacketHeaders, LaxPayloadSlice, LaxSlicedPacket};
 use ether_link::err::Layer;
+use ether_link::err::macsec::HeaderError::{InvalidUnmodifiedShortLen, UnexpectedVersion};
 use ether_link::{EtherType, IpNumber};
 use std::test::Fail;
 
@@ -93,6 +99,91 @@ fn each_lack_of_bytes_stops_both_dissectors(rt: HostRuntime) -> Result<(), Fail>
             assert_eq!(rt; lack(&LaxSlicedPacket::from_ip(rest)?.stop_err), want);
             assert_eq!(rt; lack(&LaxPacketHeaders::from_ip(rest)?.stop_err), want);
         }
+    }
+    Ok(())
+}
+
+// A frame, a place in it and the byte that is put there, what is wrong then, and where it stops.
+const WRONG: [(&[u8], usize, u8, SliceError, Layer); 9] = [
+    (
+        &SECURED,
+        14,
+        0x80,
+        Macsec(UnexpectedVersion),
+        Layer::MacsecHeader,
+    ),
+    (
+        &SECURED,
+        15,
+        1,
+        Macsec(InvalidUnmodifiedShortLen),
+        Layer::MacsecHeader,
+    ),
+    (
+        &DNS,
+        14,
+        0x44,
+        Ip(Ipv4HeaderLengthSmallerThanHeader { ihl: 4 }),
+        Layer::IpHeader,
+    ),
+    (
+        &CHAIN,
+        14,
+        0x50,
+        Ip(UnsupportedIpVersion { version_number: 5 }),
+        Layer::IpHeader,
+    ),
+    (
+        &AUTHENTICATED,
+        35,
+        0,
+        Ipv4Exts(ZeroPayloadLen),
+        Layer::IpAuthHeader,
+    ),
+    (
+        &TWO_AUTHENTICATIONS,
+        55,
+        0,
+        Ipv6Exts(IpAuth(ZeroPayloadLen)),
+        Layer::IpAuthHeader,
+    ),
+    (
+        &LATE,
+        54,
+        0,
+        Ipv6Exts(HopByHopNotAtStart),
+        Layer::Ipv6HopByHopHeader,
+    ),
+    (
+        &ROUTED,
+        62,
+        0,
+        Ipv6Exts(HopByHopNotAtStart),
+        Layer::Ipv6HopByHopHeader,
+    ),
+    (
+        &TCP,
+        46,
+        0x48,
+        SliceError::Tcp(DataOffsetTooSmall { data_offset: 4 }),
+        Layer::TcpHeader,
+    ),
+];
+
+#[test]
+fn each_wrong_byte_stops_both_dissectors(rt: HostRuntime) -> Result<(), Fail> {
+    for (frame, place, byte, error, layer) in WRONG {
+        let mut bytes = [0; 105];
+        for (to, from) in bytes.iter_mut().zip(frame) {
+            *to = *from;
+        }
+        if let Some(wrong) = bytes.get_mut(place) {
+            *wrong = byte;
+        }
+        let bytes = front(&bytes, frame.len());
+        let want = Some((error, layer));
+        assert_eq!(rt; LaxSlicedPacket::from_ethernet(bytes)?.stop_err, want);
+        assert_eq!(rt; LaxPacketHeaders::from_ethernet(bytes)?.stop_err, want);
     }
     Ok(())
 }

@@ -1,6 +1,6 @@
 //! Cases of the original map over borrowed places of `a` = 1 to `d` = 4, and the same over a tree.
 use crate::callers::{count_after_reset, set_count, set_counts};
-use managed::{InsertError, ManagedMap};
+use managed::{InsertError, Iter, ManagedMap};
 use std::collections::BTreeMap;
 use std::test::Fail;
 
@@ -10,6 +10,14 @@ const NONE: Places = [None; 4];
 
 const ONE: Places = [Some((b'a', 1)), None, None, None];
 
+const TWO: Places = [Some((b'a', 1)), Some((b'b', 2)), None, None];
+
+const GAP: Places = [Some((b'a', 1)), Some((b'c', 3)), None, None];
+
+const THREE: Places = [Some((b'a', 1)), Some((b'b', 2)), Some((b'c', 3)), None];
+
+const LATER: Places = [Some((b'b', 2)), Some((b'c', 3)), Some((b'd', 4)), None];
+
 const FULL: Places = [
     Some((b'a', 1)),
     Some((b'b', 2)),
@@ -17,7 +25,12 @@ const FULL: Places = [
     Some((b'd', 4)),
 ];
 
-const LATER: Places = [Some((b'b', 2)), Some((b'c', 3)), Some((b'd', 4)), None];
+const WITH_SIX: Places = [
+    Some((b'a', 6)),
+    Some((b'b', 2)),
+    Some((b'c', 3)),
+    Some((b'd', 4)),
+];
 
 const RAISED: Places = [
     Some((b'a', 2)),
@@ -33,62 +46,42 @@ const SECOND: Places = [
     Some((b'd', 4)),
 ];
 
-// What each key is found as, before and by `get_mut`.
-const FOUND: [(Places, u8, Option<u32>); 9] = [
-    (FULL, b'a', Some(1)),
-    (FULL, b'b', Some(2)),
-    (FULL, b'c', Some(3)),
-    (FULL, b'd', Some(4)),
-    (FULL, b'q', None),
-    (FULL, b'0', None),
-    (ONE, b'a', Some(1)),
-    (ONE, b'q', None),
-    (NONE, b'q', None),
-];
+/// A call with a key, and what it answers.
+#[derive(Clone, Copy)]
+enum Call {
+    /// The key has this value.
+    Finds(u8, Option<u32>),
+    /// The pair goes in, in the place of this value.
+    Inserts(u8, u32, Option<u32>),
+    /// There is no place for the pair.
+    Refuses(u8, u32),
+    /// The pair with this value goes out.
+    Removes(u8, Option<u32>),
+    /// All pairs go out.
+    Clears,
+}
 
-// What an insert of a pair answers, and what it leaves in the places.
-const INSERTED: [(
-    Places,
-    u8,
-    u32,
-    Result<Option<u32>, InsertError<u8, u32>>,
-    Places,
-); 6] = [
-    (NONE, b'a', 1, Ok(None), ONE),
-    (
-        ONE,
-        b'a',
-        2,
-        Ok(Some(1)),
-        [Some((b'a', 2)), None, None, None],
-    ),
-    (FULL, b'q', 1, Err(InsertError::Full(b'q', 1)), FULL),
-    (
-        ONE,
-        b'b',
-        2,
-        Ok(None),
-        [Some((b'a', 1)), Some((b'b', 2)), None, None],
-    ),
-    (
-        [Some((b'a', 1)), Some((b'c', 3)), None, None],
-        b'b',
-        2,
-        Ok(None),
-        [Some((b'a', 1)), Some((b'b', 2)), Some((b'c', 3)), None],
-    ),
-    (
-        [Some((b'b', 2)), Some((b'c', 3)), Some((b'd', 4)), None],
-        b'a',
-        6,
-        Ok(None),
-        [
-            Some((b'a', 6)),
-            Some((b'b', 2)),
-            Some((b'c', 3)),
-            Some((b'd', 4)),
-        ],
-    ),
+// What lies in the places, a call, and what it leaves there.
+const CASES: [(Places, Call, Places); 19] = [
+    (FULL, Call::Finds(b'a', Some(1)), FULL),
+    (FULL, Call::Finds(b'b', Some(2)), FULL),
+    (FULL, Call::Finds(b'c', Some(3)), FULL),
+    (FULL, Call::Finds(b'd', Some(4)), FULL),
+    (FULL, Call::Finds(b'q', None), FULL),
+    (FULL, Call::Finds(b'0', None), FULL),
+    (ONE, Call::Finds(b'a', Some(1)), ONE),
+    (ONE, Call::Finds(b'q', None), ONE),
+    (NONE, Call::Finds(b'q', None), NONE),
+    (NONE, Call::Inserts(b'a', 1, None), ONE),
+    (FULL, Call::Inserts(b'a', 6, Some(1)), WITH_SIX),
+    (ONE, Call::Inserts(b'b', 2, None), TWO),
+    (GAP, Call::Inserts(b'b', 2, None), THREE),
+    (LATER, Call::Inserts(b'a', 6, None), WITH_SIX),
+    (FULL, Call::Refuses(b'q', 1), FULL),
+    (FULL, Call::Removes(b'a', Some(1)), LATER),
+    (FULL, Call::Removes(b'q', None), FULL),
+    (FULL, Call::Clears, NONE),
+    (ONE, Call::Removes(b'a', Some(1)), NONE),
 ];
 
 // The places of a borrowed map.
@@ -99,101 +92,101 @@ fn places_in<'b>(map: &'b ManagedMap<'_, u8, u32>) -> &'b [Option<(u8, u32)>] {
     }
 }
 
-#[test]
-fn each_key_is_found(rt: HostRuntime) -> Result<(), Fail> {
-    for (places, key, want) in FOUND {
-        let mut places = places;
-        let mut map = ManagedMap::Borrowed(&mut places);
-        assert!(rt; map.is_sorted());
-        assert_eq!(rt; map.get(&key).copied(), want, "key {key}");
-        assert_eq!(rt; map.get_mut(&key).copied(), want, "key {key}");
+fn is_value(found: Option<&u32>, want: Option<u32>) -> bool {
+    match found {
+        Some(value) => Some(*value) == want,
+        None => want.is_none(),
     }
-    Ok(())
+}
+
+// Whether a call answers as it should.
+fn answers(map: &mut ManagedMap<'_, u8, u32>, call: Call) -> bool {
+    if !map.is_sorted() {
+        return false;
+    }
+    match call {
+        Call::Finds(key, want) => is_value(map.get(&key), want) && lends(map, key, want),
+        Call::Inserts(key, value, want) => map.insert(key, value) == Ok(want),
+        Call::Refuses(key, value) => {
+            map.insert(key, value) == Err(InsertError::Full(key, value))
+        }
+        Call::Removes(key, want) => map.remove(&key) == want,
+        Call::Clears => {
+            map.clear();
+            map.is_empty()
+        }
+    }
+}
+
+fn lends(map: &mut ManagedMap<'_, u8, u32>, key: u8, want: Option<u32>) -> bool {
+    if !map.is_sorted() {
+        return false;
+    }
+    match map.get_mut(&key) {
+        Some(value) => Some(*value) == want,
+        None => want.is_none(),
+    }
+}
+
+// Whether a call on a map over these places answers as it should, and leaves those.
+fn answers_over(places: Places, call: Call, left: Places) -> bool {
+    let mut places = places;
+    let mut map = ManagedMap::Borrowed(&mut places);
+    answers(&mut map, call) && places_in(&map) == left.as_slice()
 }
 
 #[test]
-fn an_insert_moves_the_pairs_behind_it(rt: HostRuntime) -> Result<(), Fail> {
-    for (places, key, value, want, left) in INSERTED {
-        let mut places = places;
-        let mut map = ManagedMap::Borrowed(&mut places);
-        assert!(rt; map.is_sorted());
-        assert_eq!(rt; map.insert(key, value), want, "key {key}");
-        assert_eq!(rt; places_in(&map), left.as_slice(), "key {key}");
+fn calls_answer_and_leave_the_other_pairs(rt: HostRuntime) {
+    for (places, call, left) in CASES {
+        assert!(rt; answers_over(places, call, left));
     }
-    Ok(())
 }
 
 #[test]
-fn no_places_take_no_pair(rt: HostRuntime) -> Result<(), Fail> {
+fn no_places_take_no_pair(rt: HostRuntime) {
     let mut nowhere = ManagedMap::Borrowed(&mut []);
-    assert!(rt; nowhere.is_sorted());
-    assert_eq!(rt; nowhere.insert(b'a', 1u32), Err(InsertError::Full(b'a', 1)));
-    Ok(())
+    assert!(rt; answers(&mut nowhere, Call::Refuses(b'a', 1)));
+}
+
+// Whether a walk gives the first pairs, and counts what is left.
+fn walks(mut pairs: Iter<'_, u8, u32>, count: usize) -> bool {
+    for at in 0..count.min(4) {
+        let left = count - at;
+        if pairs.size_hint() != (left, Some(left)) {
+            return false;
+        }
+        let Some((key, value)) = pairs.next() else {
+            return false;
+        };
+        if Some((*key, *value)) != FULL[at] {
+            return false;
+        }
+    }
+    pairs.next().is_none()
 }
 
 #[test]
-fn a_removal_closes_the_gap(rt: HostRuntime) -> Result<(), Fail> {
-    let mut places = FULL;
-    let mut map = ManagedMap::Borrowed(&mut places);
-    assert!(rt; map.is_sorted());
-    assert_eq!(rt; map.remove(&b'a'), Some(1));
-    assert_eq!(rt; map.len(), 3);
-    assert_eq!(rt; map.remove(&b'q'), None);
-    assert_eq!(rt; map.len(), 3);
-    assert!(rt; !map.is_empty());
-    assert_eq!(rt; places_in(&map), LATER.as_slice());
-    Ok(())
-}
-
-#[test]
-fn a_cleared_map_is_empty(rt: HostRuntime) -> Result<(), Fail> {
-    let mut places = FULL;
-    let mut map = ManagedMap::Borrowed(&mut places);
-    map.clear();
-    assert!(rt; map.is_empty());
-    assert_eq!(rt; map.len(), 0);
-    assert_eq!(rt; places_in(&map), NONE.as_slice());
-    Ok(())
-}
-
-#[test]
-fn a_walk_counts_what_is_left(rt: HostRuntime) -> Result<(), Fail> {
+fn a_walk_counts_what_is_left(rt: HostRuntime) {
     for (places, count) in [(NONE, 0), (ONE, 1), (FULL, 4)] {
         let mut places = places;
         let map = ManagedMap::Borrowed(&mut places);
-        assert!(rt; map.is_sorted());
-        let mut pairs = map.iter();
-        assert_eq!(rt; pairs.size_hint(), (count, Some(count)));
-        for (at, (key, value)) in map.iter().enumerate() {
-            assert_eq!(rt;
-                pairs.next().map(|(key, value)| (*key, *value)),
-                Some((*key, *value))
-            );
-            assert_eq!(rt; pairs.size_hint().0, count.saturating_sub(at + 1));
-            assert_eq!(rt; Some((*key, *value)), FULL[at % 4]);
-        }
-        assert!(rt; pairs.next().is_none());
+        assert!(rt; map.is_sorted() && map.len() == count && walks(map.iter(), count));
     }
-    Ok(())
 }
 
 #[test]
-fn a_walk_that_writes_keeps_each_key(rt: HostRuntime) -> Result<(), Fail> {
+fn a_walk_that_writes_keeps_each_key(rt: HostRuntime) {
     let mut places = FULL;
     let mut map = ManagedMap::Borrowed(&mut places);
-    assert!(rt; map.is_sorted());
-    assert_eq!(rt; map.iter_mut().size_hint(), (0, Some(4)));
     assert!(rt; map.is_sorted());
     for (_, value) in map.iter_mut() {
         *value = value.saturating_add(1);
     }
-    assert!(rt; map.is_sorted());
-    assert_eq!(rt; places_in(&map), RAISED.as_slice());
-    Ok(())
+    assert!(rt; places_in(&map) == RAISED.as_slice());
 }
 
 #[test]
-fn a_walk_that_is_left_early_keeps_each_pair(rt: HostRuntime) -> Result<(), Fail> {
+fn a_walk_that_is_left_early_keeps_each_pair(rt: HostRuntime) {
     let mut places = FULL;
     let mut map = ManagedMap::Borrowed(&mut places);
     assert!(rt; map.is_sorted());
@@ -203,9 +196,12 @@ fn a_walk_that_is_left_early_keeps_each_pair(rt: HostRuntime) -> Result<(), Fail
             break;
         }
     }
-    assert!(rt; map.is_sorted());
-    assert_eq!(rt; places_in(&map), SECOND.as_slice());
-    Ok(())
+    assert!(rt; places_in(&map) == SECOND.as_slice());
+}
+
+// Whether these are the values of `a` and `c`.
+fn has(map: &ManagedMap<'_, u8, u32>, a: Option<u32>, c: Option<u32>) -> bool {
+    map.is_sorted() && is_value(map.get(&b'a'), a) && is_value(map.get(&b'c'), c)
 }
 
 // Whether closures write the values of `a` = 1 and `c` = 3, and nothing else.
@@ -213,12 +209,11 @@ fn closures_write(map: &mut ManagedMap<u8, u32>) -> bool {
     if !map.is_sorted() {
         return false;
     }
-    let found = set_count(map, &b'c', 30);
-    let absent = set_count(map, &b'b', 20);
-    let one = map.get(&b'a').copied() == Some(1) && map.get(&b'c').copied() == Some(30);
+    if !set_count(map, &b'c', 30) || set_count(map, &b'b', 20) || !has(map, Some(1), Some(30)) {
+        return false;
+    }
     set_counts(map, 7);
-    let all = map.get(&b'a').copied() == Some(7) && map.get(&b'b').is_none();
-    found && !absent && one && all && count_after_reset(map, &b'c') == Some(0)
+    has(map, Some(7), Some(7)) && count_after_reset(map, &b'c') == Some(0)
 }
 
 #[test]
@@ -244,19 +239,15 @@ fn empty_places_come_last(rt: HostRuntime) -> Result<(), Fail> {
 }
 
 #[test]
-fn an_owned_map_takes_the_new_value(rt: HostRuntime) -> Result<(), Fail> {
+fn an_owned_map_takes_the_new_value(rt: HostRuntime) {
     let mut map = ManagedMap::from(BTreeMap::new(rt.alloc()));
-    assert_eq!(rt; map.insert(b'a', 1u32), Ok(None));
-    assert_eq!(rt; map.insert(b'a', 2), Ok(Some(1)));
-    assert_eq!(rt; map.iter().count(), 1);
-    if let Some(value) = map.get_mut(&b'a') {
-        *value = 3;
-    }
+    assert!(rt; answers(&mut map, Call::Inserts(b'a', 1, None)));
+    assert!(rt; answers(&mut map, Call::Inserts(b'a', 2, Some(1))));
+    assert!(rt; answers(&mut map, Call::Finds(b'a', Some(2))));
     assert!(rt; map.is_sorted());
     for (_, value) in map.iter_mut() {
-        assert_eq!(rt; *value, 3);
+        assert!(rt; *value == 2);
     }
-    Ok(())
 }
 
 const PLACES: u32 = 1_000_000;

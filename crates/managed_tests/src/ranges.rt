@@ -69,108 +69,100 @@ fn by_reference(bound: &Bound<u8>) -> Bound<&u8> {
     }
 }
 
-// The keys of the pairs that are left, and each value that is not its key's place in the alphabet.
-fn forwards(alloc: Global, range: Range<'_, u8, u32>) -> Result<String, AllocError> {
-    let mut keys = String::new(alloc);
-    for (key, value) in range {
-        keys.push(*key as char)?;
-        if (*value).wrapping_add(96) != *key as u32 {
-            keys.push('!')?;
+// Whether what is left are these keys, each with its place in the alphabet for its value.
+fn forwards(mut range: Range<'_, u8, u32>, keys: &[u8]) -> bool {
+    for want in keys {
+        let Some((key, value)) = range.next() else {
+            return false;
+        };
+        if *key != *want || (*value).wrapping_add(96) != u32::from(*key) {
+            return false;
         }
     }
-    Ok(keys)
+    range.next().is_none()
 }
 
-// The same from the back, put in order.
-fn backwards(alloc: Global, range: Range<'_, u8, u32>) -> Result<String, AllocError> {
-    let mut keys = Vec::new(alloc);
-    for (key, _) in range.rev() {
-        keys.push(*key)?;
+// The same from the back.
+fn backwards(mut range: Range<'_, u8, u32>, keys: &[u8]) -> bool {
+    for want in keys.iter().rev() {
+        let Some((key, _)) = range.next_back() else {
+            return false;
+        };
+        if *key != *want {
+            return false;
+        }
     }
-    let mut text = String::new(alloc);
-    for key in keys.iter().rev() {
-        text.push(*key as char)?;
-    }
-    Ok(text)
+    range.next_back().is_none()
 }
 
 // Whether a range of a sorted map gives the keys, from both ends.
-fn gives(
-    alloc: Global,
-    map: &ManagedMap<u8, u32>,
-    from: Bound<&u8>,
-    to: Bound<&u8>,
-    want: &str,
-) -> Result<bool, AllocError> {
-    if !map.is_sorted() {
-        return Ok(false);
-    }
-    let front = forwards(alloc, map.range(from, to))?;
-    let back = backwards(alloc, map.range(from, to))?;
-    Ok(front.as_str() == want && back.as_str() == want)
+fn gives(map: &ManagedMap<'_, u8, u32>, from: Bound<&u8>, to: Bound<&u8>, keys: &[u8]) -> bool {
+    map.is_sorted() && forwards(map.range(from, to), keys) && backwards(map.range(from, to), keys)
 }
 
 // Whether each range of a map of `a` to `d` gives its keys.
-fn gives_all(alloc: Global, map: &ManagedMap<u8, u32>) -> Result<bool, AllocError> {
+fn gives_all(map: &ManagedMap<'_, u8, u32>) -> bool {
     for (from, to, want) in HALF_OPEN {
         if !gives(
-            alloc,
             map,
             Bound::Included(&from),
             Bound::Excluded(&to),
-            want,
-        )? {
-            return Ok(false);
+            want.as_bytes(),
+        ) {
+            return false;
         }
     }
     for (from, to, want) in BOUNDED {
-        if !gives(alloc, map, by_reference(&from), by_reference(&to), want)? {
-            return Ok(false);
+        if !gives(map, by_reference(&from), by_reference(&to), want.as_bytes()) {
+            return false;
         }
     }
-    Ok(true)
+    true
 }
 
-fn key_of(pair: Option<(&u8, &u32)>) -> Option<u8> {
-    pair.map(|(key, _)| *key)
-}
+const FULL: [Option<(u8, u32)>; 5] = [
+    Some((b'a', 1)),
+    Some((b'b', 2)),
+    Some((b'c', 3)),
+    Some((b'd', 4)),
+    None,
+];
 
 #[test]
 fn ranges_give_the_keys_inside_their_bounds(rt: HostRuntime) -> Result<(), Fail> {
-    let mut places = [
-        Some((b'a', 1u32)),
-        Some((b'b', 2)),
-        Some((b'c', 3)),
-        Some((b'd', 4)),
-        None,
-    ];
-    assert!(rt; gives_all(rt.alloc(), &ManagedMap::Borrowed(&mut places))?);
+    let mut places = FULL;
+    assert!(rt; gives_all(&ManagedMap::Borrowed(&mut places)));
     let mut tree = BTreeMap::new(rt.alloc());
     for (key, value) in [(b'd', 4), (b'b', 2), (b'c', 3), (b'a', 1)] {
         tree.insert(key, value)?;
     }
-    assert!(rt; gives_all(rt.alloc(), &ManagedMap::Owned(tree))?);
+    assert!(rt; gives_all(&ManagedMap::Owned(tree)));
     Ok(())
 }
 
+// Whether the ends of a range over four pairs give the first, the last, the third and the second one, and no more.
+fn ends_meet(mut range: Range<'_, u8, u32>) -> bool {
+    for (is_front, want) in [(true, b'a'), (false, b'd'), (false, b'c'), (true, b'b')] {
+        let found = if is_front {
+            range.next()
+        } else {
+            range.next_back()
+        };
+        let Some((key, _)) = found else {
+            return false;
+        };
+        if *key != want {
+            return false;
+        }
+    }
+    range.next_back().is_none() && range.next().is_none()
+}
+
 #[test]
-fn a_range_ends_where_its_ends_meet(rt: HostRuntime) -> Result<(), Fail> {
-    let mut places = [
-        Some((b'a', 1u32)),
-        Some((b'b', 2)),
-        Some((b'c', 3)),
-        Some((b'd', 4)),
-    ];
+fn a_range_ends_where_its_ends_meet(rt: HostRuntime) {
+    let mut places = FULL;
     let map = ManagedMap::Borrowed(&mut places);
-    assert!(rt; map.is_sorted());
-    let mut range = map.range(Bound::Included(&b'a'), Bound::Unbounded);
-    assert_eq!(rt; key_of(range.next()), Some(b'a'));
-    assert_eq!(rt; key_of(range.next_back()), Some(b'd'));
-    assert_eq!(rt; key_of(range.next_back()), Some(b'c'));
-    assert_eq!(rt; key_of(range.next()), Some(b'b'));
-    assert_eq!(rt; key_of(range.next_back()), None);
-    assert_eq!(rt; key_of(range.next()), None);
-    Ok(())
+    assert!(rt; map.is_sorted() && ends_meet(map.range(Bound::Included(&b'a'), Bound::Unbounded)));
 }
 
 // What a range prints.
@@ -180,46 +172,42 @@ fn printed(alloc: Global, range: &Range<'_, u8, u32>) -> Result<String, AllocErr
 
 #[test]
 fn a_copy_of_a_range_is_left_where_it_was(rt: HostRuntime) -> Result<(), Fail> {
-    let mut places = [
-        Some((b'a', 1u32)),
-        Some((b'b', 2)),
-        Some((b'c', 3)),
-        Some((b'd', 4)),
-    ];
+    let mut places = FULL;
     let map = ManagedMap::Borrowed(&mut places);
     assert!(rt; map.is_sorted());
     let range = map.range(Bound::Included(&b'b'), Bound::Excluded(&b'd'));
     let copy = range.clone()?;
-    assert_eq!(rt; forwards(rt.alloc(), range)?.as_str(), "bc");
-    assert_eq!(rt; printed(rt.alloc(), &copy)?.as_str(), "[(98, 2), (99, 3)]");
-    assert_eq!(rt; forwards(rt.alloc(), copy)?.as_str(), "bc");
+    assert!(rt; forwards(range, b"bc"));
+    assert!(rt; printed(rt.alloc(), &copy)?.as_str() == "[(98, 2), (99, 3)]");
+    assert!(rt; forwards(copy, b"bc"));
     Ok(())
 }
 
 #[test]
-fn a_range_of_few_pairs_stops_before_the_empty_places(rt: HostRuntime) -> Result<(), Fail> {
-    for (count, from, to, want) in [
-        (1usize, b'0', b'a', ""),
-        (1, b'0', b'b', "a"),
-        (1, b'0', b'c', "a"),
-        (1, b'a', b'a', ""),
-        (1, b'a', b'b', "a"),
-        (1, b'a', b'c', "a"),
-        (1, b'b', b'a', ""),
-        (1, b'b', b'b', ""),
-        (1, b'b', b'c', ""),
-        (0, b'b', b'a', ""),
-        (0, b'b', b'b', ""),
-        (0, b'b', b'c', ""),
+fn a_range_of_few_pairs_stops_before_the_empty_places(rt: HostRuntime) {
+    for (first, from, to, want) in [
+        (FULL[0], b'0', b'a', ""),
+        (FULL[0], b'0', b'b', "a"),
+        (FULL[0], b'0', b'c', "a"),
+        (FULL[0], b'a', b'a', ""),
+        (FULL[0], b'a', b'b', "a"),
+        (FULL[0], b'a', b'c', "a"),
+        (FULL[0], b'b', b'a', ""),
+        (FULL[0], b'b', b'b', ""),
+        (FULL[0], b'b', b'c', ""),
+        (None, b'b', b'a', ""),
+        (None, b'b', b'b', ""),
+        (None, b'b', b'c', ""),
     ] {
-        let mut places = [None, None, None, None];
-        if count == 1 {
-            places[0] = Some((b'a', 1u32));
-        }
+        let mut places = [first, None, None, None];
         let map = ManagedMap::Borrowed(&mut places);
-        assert!(rt; map.is_sorted());
-        let range = map.range(Bound::Included(&from), Bound::Excluded(&to));
-        assert_eq!(rt; forwards(rt.alloc(), range)?.as_str(), want);
+        assert!(rt;
+            gives(
+                &map,
+                Bound::Included(&from),
+                Bound::Excluded(&to),
+                want.as_bytes()
+            )
+        );
     }
-    Ok(())
 }

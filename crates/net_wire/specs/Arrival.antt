@@ -101,8 +101,8 @@ abbrev pub arriving_datagram : EthernetAddress → List ℕ → Option Datagram
 arriving_datagram hardware frame =
     if has_packet_for hardware frame then packet_datagram (drop 14 frame) else None
 
--- what a datagram on the wire is made of: addresses of four bytes, ports of 16 bits, at most 65507 bytes
-pub record IsOnTheWire (datagram : Datagram) : Type 0 where
+-- what a datagram that can be sent is made of: addresses of four bytes, ports of 16 bits, at most 65507 bytes
+pub record IsSendable (datagram : Datagram) : Type 0 where
   pub source : length datagram.source.0 ≡ 4
   pub destination : length datagram.destination.0 ≡ 4
   pub source_port : datagram.source_port < 65536
@@ -112,6 +112,6 @@ pub record IsOnTheWire (datagram : Datagram) : Type 0 where
 -- a frame that is sent with a datagram of one host carries it to each station that takes the frame
 abbrev pub SentFramesArrive : Type 0
 SentFramesArrive = (from to hardware : EthernetAddress) (hop_limit : ℕ) (datagram : Datagram) (frame : List ℕ)
-    → length from.0 ≡ 6 → length to.0 ≡ 6 → IsOnTheWire datagram → is_unicast datagram.source ≡ true
+    → length from.0 ≡ 6 → length to.0 ≡ 6 → IsSendable datagram → is_unicast datagram.source ≡ true
     → is_taken_by hardware to ≡ true → IsSentFrame from to hop_limit datagram frame
     → arriving_datagram hardware frame ≡ Some datagram

@@ -1,8 +1,7 @@
--- What frames carry by example, one for each rule that a slip would change. Sums were worked out apart.
+-- The datagrams that frames carry by example, one for each rule that a slip would change. Sums were worked
+-- out apart.
 use Rattle.std.specs.Prelude.{◌≡◌, ℕ, List, [], ◌∷◌, ◌++◌, take, replicate, Some, None}
 use Rattle.net_wire.specs.declared.address.EthernetAddress.{EthernetAddress}
-use Rattle.net_wire.specs.declared.arp.ArpRepr.{ArpRepr}
-use Rattle.net_wire.specs.Arp.{arp_frame_bytes, arriving_arp}
 use Rattle.net_wire.specs.Arrival.{arriving_datagram}
 use Rattle.net_wire.specs.Datagram.{Datagram}
 use Rattle.net_wire.specs.DhcpRead.{address_with, hardware_with}
@@ -21,6 +20,11 @@ host = 192 ∷ 168 ∷ 1 ∷ 1 ∷ []
 abbrev pub header_with : List ℕ → List ℕ → List ℕ → List ℕ
 header_with fragment checksum source =
     0x45 ∷ 0 ∷ 0 ∷ 31 ∷ 0 ∷ 0 ∷ [] ++ fragment ++ 64 ∷ 17 ∷ [] ++ checksum ++ source ++ replicate 4 255
+
+-- first byte, protocol and header checksum: else the header of 20 bytes from the host
+abbrev pub header_by : ℕ → ℕ → List ℕ → List ℕ
+header_by first protocol checksum =
+    first ∷ 0 ∷ 0 ∷ 31 ∷ replicate 4 0 ++ 64 ∷ protocol ∷ [] ++ checksum ++ host ++ replicate 4 255
 
 -- length and checksum: from port 67 to 68, with three bytes
 abbrev pub udp_with : ℕ → List ℕ → List ℕ
@@ -73,6 +77,11 @@ pub record DatagramsByExample : Type 0 where
   pub all_ones : arriving_datagram station
       (ip_frame (header_with (0 ∷ 0 ∷ []) (0xFF ∷ 0xFF ∷ []) (10 ∷ 0 ∷ 0x70 ∷ 0xCF ∷ [])) bare_udp)
       ≡ Some (datagram_from (10 ∷ 0 ∷ 0x70 ∷ 0xCF ∷ []) (0xAA ∷ 0xBB ∷ 0xCC ∷ []))
+  -- the version 4, a header of 20 bytes at least, and the protocol UDP, where all else is right
+  pub other_version : arriving_datagram station (ip_frame (header_by 0x65 17 (0x99 ∷ 0x25 ∷ [])) udp) ≡ None
+  pub short_header : arriving_datagram station
+      (ip_frame (header_by 0x44 17 (0xBA ∷ 0x25 ∷ [])) (0 ∷ 15 ∷ 0 ∷ 0 ∷ replicate 7 7)) ≡ None
+  pub other_protocol : arriving_datagram station (ip_frame (header_by 0x45 6 (0xB9 ∷ 0x30 ∷ [])) udp) ≡ None
   -- the first fragment of some, and a later one; don't fragment and the reserved bit make none
   pub more_fragments : arriving_datagram station
       (ip_frame (header_with (0x20 ∷ 0 ∷ []) (0x99 ∷ 0x25 ∷ []) host) udp) ≡ None
@@ -99,42 +108,3 @@ pub record DatagramsByExample : Type 0 where
   pub with_option : arriving_datagram station
       (ip_frame (0x46 ∷ 0 ∷ 0 ∷ 35 ∷ 0 ∷ 0 ∷ 0 ∷ 0 ∷ 64 ∷ 17 ∷ 0xB6 ∷ 0x20 ∷ [] ++ host ++ replicate 4 255
       ++ 1 ∷ 1 ∷ 1 ∷ 0 ∷ []) udp) ≡ Some datagram
-
--- operation, sender and its address: a packet for 192.168.1.42
-abbrev pub arp_with : ℕ → List ℕ → List ℕ → ArpRepr
-arp_with operation hardware address = record {
-  operation = operation;
-  source_hardware_addr = hardware_with hardware;
-  source_protocol_addr = address_with address;
-  target_hardware_addr = hardware_with (replicate 6 0);
-  target_protocol_addr = address_with (192 ∷ 168 ∷ 1 ∷ 42 ∷ []);
-}
-
-abbrev pub request : ArpRepr
-request = arp_with 1 (replicate 6 4) host
-
-abbrev pub request_frame : List ℕ
-request_frame =
-    replicate 6 255 ++ replicate 6 4 ++ 0x08 ∷ 0x06 ∷ 0 ∷ 1 ∷ 0x08 ∷ 0 ∷ 6 ∷ 4 ∷ 0 ∷ 1 ∷ [] ++ replicate 6 4
-    ++ host ++ replicate 6 0 ++ 192 ∷ 168 ∷ 1 ∷ 42 ∷ []
-
-abbrev pub sent : ArpRepr → List ℕ
-sent arp = arp_frame_bytes other_station station arp
-
-pub record ArpByExample : Type 0 where
-  pub bytes : arp_frame_bytes other_station (hardware_with (replicate 6 255)) request ≡ request_frame
-  pub counts : arriving_arp station request_frame ≡ Some request
-  pub reply : arriving_arp station (sent (arp_with 2 (replicate 6 4) host))
-      ≡ Some (arp_with 2 (replicate 6 4) host)
-  pub other_operation : arriving_arp station (sent (arp_with 3 (replicate 6 4) host)) ≡ None
-  -- bytes may follow, none may be missing
-  pub padded : arriving_arp station (request_frame ++ replicate 18 0) ≡ Some request
-  pub cut : arriving_arp station (take 41 request_frame) ≡ None
-  pub to_other : arriving_arp other_station (sent request) ≡ None
-  -- the sender is one station and one host
-  pub from_group : arriving_arp station (sent (arp_with 1 (1 ∷ replicate 5 4) host)) ≡ None
-  pub from_nobody : arriving_arp station (sent (arp_with 1 (replicate 6 4) (replicate 4 0))) ≡ None
-  -- of Ethernet and IPv4
-  pub other_hardware : arriving_arp station
-      (replicate 6 2 ++ replicate 6 4 ++ 0x08 ∷ 0x06 ∷ 0 ∷ 6 ∷ 0x08 ∷ 0 ∷ 6 ∷ 4 ∷ 0 ∷ 1 ∷ [] ++ replicate 6 4
-      ++ host ++ replicate 10 0) ≡ None

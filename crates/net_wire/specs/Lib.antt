@@ -1,4 +1,5 @@
 pub mod Arp
+pub mod ArpExamples
 pub mod Arrival
 pub mod ArrivalExamples
 pub mod ArrivalValues

@@ -7,10 +7,10 @@ use crate::arrival::is_for;
 use crate::{EthernetAddress, EthernetProtocol, EthernetRepr, Ipv4Address};
 use wire_base::number::{append, read_array, read_be16};
 
-/// The operation of a request (RFC 826, section "Packet format").
+/// The operation of a request (`ares_op$REQUEST` of RFC 826, section "Definitions").
 pub const REQUEST: u16 = 1;
 
-/// The operation of a reply.
+/// The operation of a reply (`ares_op$REPLY` there).
 pub const REPLY: u16 = 2;
 
 /// What begins a packet: hardware type 1, protocol 0800, and the sizes of their addresses.

@@ -1,7 +1,8 @@
 //! Facts about the definitions, each a function that does nothing and whose clause is the fact.
 ghost use Rattle.net_wire.specs.Arp.{SentArpCounts};
+ghost use Rattle.net_wire.specs.ArpExamples.{ArpByExample};
 ghost use Rattle.net_wire.specs.Arrival.{SentFramesArrive};
-ghost use Rattle.net_wire.specs.ArrivalExamples.{ArpByExample, DatagramsByExample};
+ghost use Rattle.net_wire.specs.ArrivalExamples.{DatagramsByExample};
 ghost use Rattle.net_wire.specs.Datagram.{IsOneSentFrame};
 ghost use Rattle.net_wire.specs.DhcpReadBack.{ReadsWritten};
 ghost use Rattle.net_wire.specs.DnsExamples.{NamesByExample, RecordsByExample};
@@ -48,7 +49,10 @@ pub fn sent_frames_arrive()
     ensures { SentFramesArrive }
 {}
 
-/// A DHCP message that was written is read again, but for the options of the caller, which read as nothing.
+/// A DHCP message that was written is read again, but for the options of the caller, which read as nothing. Its
+/// numbers and addresses are as wide as their fields, its type has a name or a number without one, its request list
+/// is not empty, its name servers are one to three single hosts, and no option of the caller is of a kind that is
+/// read.
 pub fn messages_are_read()
     ensures { ReadsWritten }
 {}

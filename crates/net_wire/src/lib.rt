@@ -5,8 +5,6 @@ pub mod address;
 pub mod arp;
 pub mod arrival;
 pub mod dhcp;
-#[cfg(test)]
-mod dhcp_tests;
 pub mod dns;
 pub mod error;
 pub mod ethernet;
@@ -15,8 +13,6 @@ pub mod ipv4;
 pub mod laws;
 pub mod pretty;
 pub mod protocol;
-#[cfg(test)]
-mod tests;
 pub mod time;
 pub mod udp;
 

@@ -68,19 +68,3 @@ impl Eq for FrameBytes {
 
     ghost laws = { Prim.search (comparing, rules) };
 }
-
-#[cfg(test)]
-mod tests {
-    use super::*;
-    use std::test::Fail;
-
-    #[test]
-    fn holds_a_copy(rt: HostRuntime) -> Result<(), Fail> {
-        let frame = FrameBytes::from_slice(rt.alloc(), &[1, 2, 3])?;
-        let other = FrameBytes::from_slice(rt.alloc(), &[1, 2])?;
-        assert_eq!(rt; frame.as_slice(), [1, 2, 3].as_slice());
-        assert!(rt; frame == frame.clone()?);
-        assert!(rt; frame != other);
-        Ok(())
-    }
-}

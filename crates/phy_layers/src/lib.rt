@@ -14,8 +14,6 @@ pub mod frame_bytes;
 pub mod fuzz_injector;
 pub mod fuzzer;
 pub mod laws;
-#[cfg(test)]
-mod layer_tests;
 pub mod memory_device;
 pub mod pcap;
 pub mod pcap_writer;

@@ -6,8 +6,6 @@ mod packet;
 mod query;
 mod question;
 mod record;
-#[cfg(test)]
-mod tests;
 
 pub use dns_type::DnsType;
 pub use flags::HeaderFlags;

@@ -10,8 +10,6 @@ pub mod icmpv4;
 pub mod indent;
 pub mod ipv4;
 pub mod laws;
-#[cfg(test)]
-mod tests;
 
 pub use ethernet::EthernetFrame;
 pub use icmpv4::Icmpv4Packet;

@@ -171,6 +171,3 @@ fn write_pieces<S: ByteSink>(sink: &mut S, pieces: &[&[u8]]) -> Result<(), SinkE
     }
     Ok(())
 }
-
-#[cfg(test)]
-mod tests;

@@ -16,4 +16,7 @@ returns c = record {
   from_group = refl;
   from_nobody = refl;
   other_hardware = refl;
+  other_protocol = refl;
+  other_hardware_size = refl;
+  other_protocol_size = refl;
 }

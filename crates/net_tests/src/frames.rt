@@ -4,8 +4,7 @@ ghost use Rattle.std.specs.List.{AllByRecursion};
 ghost use Rattle.net_wire.specs.DhcpMessage.{message_of, option_value};
 ghost use Rattle.net_wire.specs.DhcpBytes.{message_bytes, address_option, additional_bytes, IsWritable, IsWritableOption};
 
-use crate::laws::one_sent_frame;
-use crate::{
+use net_wire::{
     DhcpMessageType, DhcpOption, DhcpRepr, Duration, EthernetAddress, EthernetProtocol,
     EthernetRepr, Instant, IpProtocol, Ipv4Address, Ipv4Repr, UdpRepr, udp_frame,
 };
@@ -45,7 +44,7 @@ fn discover_frame() -> [u8; 304] {
 }
 
 /// What a client that has no address sends, and adds to a request.
-#[tactic(auto, unfolding(crate::specs::DhcpBytes::message_bytes, crate::specs::DhcpBytes::header_bytes, crate::specs::DhcpBytes::options_bytes))]
+#[tactic(auto, unfolding(net_wire::specs::DhcpBytes::message_bytes, net_wire::specs::DhcpBytes::header_bytes, net_wire::specs::DhcpBytes::options_bytes))]
 fn message<'a>(
     message_type: DhcpMessageType,
     server_identifier: Option<Ipv4Address>,
@@ -88,7 +87,7 @@ fn message<'a>(
 #[test]
 fn a_discover_is_broadcast(rt: HostRuntime) {
     let discover = message(DhcpMessageType::Discover, None, None, &[]);
-    assert_eq!(rt; discover.buffer_len(), 262);
+    assert!(rt; discover.buffer_len() == 262);
     let mut message = [0; 262];
     discover.emit(&mut message);
     let eth = EthernetRepr {
@@ -109,8 +108,7 @@ fn a_discover_is_broadcast(rt: HostRuntime) {
     };
     let mut frame = [0; 304];
     udp_frame(&eth, &ip, &udp, &message, &mut frame);
-    assert_eq!(rt; frame, discover_frame());
-    one_sent_frame();
+    assert!(rt; frame == discover_frame());
 }
 
 #[test]
@@ -118,13 +116,10 @@ fn a_request_names_the_server_and_the_address(rt: HostRuntime) {
     let server = Ipv4Address([192, 168, 1, 1]);
     let asked = Ipv4Address([192, 168, 1, 42]);
     let request = message(DhcpMessageType::Request, Some(server), Some(asked), &[]);
-    assert_eq!(rt; request.buffer_len(), 274);
+    assert!(rt; request.buffer_len() == 274);
     let mut message = [0; 274];
     request.emit(&mut message);
-    assert_eq!(rt;
-        &message[252..264],
-        &[54, 4, 192, 168, 1, 1, 50, 4, 192, 168, 1, 42][..]
-    );
+    assert!(rt; &message[252..264] == &[54, 4, 192, 168, 1, 1, 50, 4, 192, 168, 1, 42][..]);
 }
 
 /// The header of a datagram of 115 bytes from 192.168.0.1 to 192.168.0.199.
@@ -143,19 +138,18 @@ fn a_header_sums_to_zero(rt: HostRuntime) {
         0x45, 0x00, 0x00, 0x73, 0x00, 0x00, 0x40, 0x00, 0x40, 0x11, 0xb8, 0x61, 0xc0, 0xa8, 0x00,
         0x01, 0xc0, 0xa8, 0x00, 0xc7, 0xaa,
     ];
-    assert_eq!(rt; header, want);
+    assert!(rt; header == want);
 }
 
 /// The example of RFC 1071, section 3.
 #[test]
 fn words_are_summed(rt: HostRuntime) {
     let sum = sum_words(&[0x00, 0x01, 0xf2, 0x03, 0xf4, 0xf5, 0xf6, 0xf7]);
-    assert_eq!(rt; sum, 0x2ddf0);
-    assert_eq!(rt; checksum_of(sum), 0x220d);
-    assert_eq!(rt; transmitted_checksum_of(sum), 0x220d);
-    assert_eq!(rt;
-        (checksum_of(0xffff), transmitted_checksum_of(0xffff)),
-        (0, 0xffff)
+    assert!(rt;
+        sum == 0x2ddf0
+            && checksum_of(sum) == 0x220d
+            && transmitted_checksum_of(sum) == 0x220d
+            && (checksum_of(0xffff), transmitted_checksum_of(0xffff)) == (0, 0xffff)
     );
 }
 
@@ -175,10 +169,7 @@ fn times_saturate(rt: HostRuntime) {
             (i64::MIN, -9_223_372_036_854, -775_808),
         ),
     ] {
-        assert_eq!(rt;
-            (instant.total_micros(), instant.secs(), instant.micros()),
-            want
-        );
+        assert!(rt; (instant.total_micros(), instant.secs(), instant.micros()) == want);
     }
     for (duration, want) in [
         (Instant::from_secs(-2) - Instant::from_secs(3), 5_000_000),
@@ -196,6 +187,6 @@ fn times_saturate(rt: HostRuntime) {
         (Duration::from_micros(1) << 64, u64::MAX),
         (Duration::from_micros(0) << 64, 0),
     ] {
-        assert_eq!(rt; duration.total_micros(), want);
+        assert!(rt; duration.total_micros() == want);
     }
 }

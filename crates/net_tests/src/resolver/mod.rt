@@ -3,7 +3,7 @@ mod names;
 mod queries;
 mod responses;
 
-use crate::{DnsEmit, GetQueryResultError, QueryHandle, Socket};
+use dns_client::{DnsEmit, GetQueryResultError, QueryHandle, Socket};
 use net_wire::{EmitError, IpAddress, IpRepr, Ipv4Address, UdpRepr};
 
 /// What became of a query.

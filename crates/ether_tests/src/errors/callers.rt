@@ -1,7 +1,7 @@
 //! Callers as a user would write them, proved from the contracts alone.
 ghost use Rattle.std.specs.Prelude.{◌≡◌, Some};
 
-use crate::{FromSliceError, ReadError, ipv4};
+use ether_err::{FromSliceError, ReadError, ipv4};
 use ether_ip::err::{ip, tcp};
 
 // A header's error is found again in the error that took it in.
