@@ -35,21 +35,28 @@ length-options kind address server requested hardware mtu id parameters options 
     (address_option 50 requested) (number16_option 57 (Some (mtu - 68))) [] [] [] (bytes_option 55 (Some parameters)) [] (additional_bytes options) (255 ∷ []) in
     omega (arith, parts, six)
 
+-- how many bytes a message has
+pub length-message : (kind : DhcpMessageType) (address : Ipv4Address) (server requested : Option Ipv4Address) (hardware : EthernetAddress) (mtu id : ℕ)
+    (parameters : List ℕ) (options : List OptionValue) → length hardware.0 ≡ 6 → length address.0 ≡ 4
+    → length (message_bytes (client_message kind address server requested hardware mtu parameters options id))
+    ≡ 259 + length (address_option 54 server) + length (address_option 50 requested) + length parameters + length (additional_bytes options)
+unfolding message_bytes
+length-message kind address server requested hardware mtu id parameters options six four =
+    let message = client_message kind address server requested hardware mtu parameters options id in
+    omega (
+      arith,
+      length-append (header_bytes message) (options_bytes message),
+      length-header kind address server requested hardware mtu id parameters options six four,
+      length-options kind address server requested hardware mtu id parameters options six,
+    )
+
 pub message_is_writable : (kind : DhcpMessageType) (address : Ipv4Address) (server requested : Option Ipv4Address) (hardware : EthernetAddress) (mtu id : ℕ)
     (parameters : List ℕ) (options : List OptionValue) → length hardware.0 ≡ 6 → length address.0 ≡ 4
     → (0 < length parameters) × (length parameters ≤ 255) → AllByRecursion IsWritableOption options
     → 259 + length (address_option 54 server) + length (address_option 50 requested) + length parameters + length (additional_bytes options) ≤ 65507
     → IsWritable (client_message kind address server requested hardware mtu parameters options id)
-unfolding message_bytes
-message_is_writable kind address server requested hardware mtu id parameters options six four listed good small =
-    let message = client_message kind address server requested hardware mtu parameters options id in
-    record {
-      request_list = listed;
-      options = good;
-      size = omega (
-        arith,
-        length-append (header_bytes message) (options_bytes message),
-        length-header kind address server requested hardware mtu id parameters options six four,
-        length-options kind address server requested hardware mtu id parameters options six,
-      );
-    }
+message_is_writable kind address server requested hardware mtu id parameters options six four listed good small = record {
+  request_list = listed;
+  options = good;
+  size = omega (arith, length-message kind address server requested hardware mtu id parameters options six four);
+}

@@ -6,7 +6,7 @@ use Rattle.std.proofs.lemmas.Int.{ints, clamps}
 use Rattle.std.proofs.lemmas.Nat.{pow_pos}
 use Rattle.net_wire.specs.Time.{instant_after, micros_between}
 use Rattle.dhcp_client.specs.Ending.{last_instant}
-use Rattle.dhcp_client.specs.Times.{Spans, spans, default_spans, spans_with, request_span, renew_span, rebind_span}
+use Rattle.dhcp_client.specs.Times.{AreOrdered, Spans, spans, default_spans, spans_with, request_span, renew_span, rebind_span}
 
 pub later : (now : ℤ) (span : ℕ) → now <ℤ last_instant → 0 < span → now <ℤ instant_after now span
 later now span room some = omega (arith, ints, clamps)
@@ -44,12 +44,12 @@ request_some initial retry some =
     let power : 1 ≤ 2 ^ (retry / 2) = omega (arith, pow_pos (retry / 2)) in
     omega (arith, mul-le-mul one power)
 
--- the renewal of a lease is not after its rebinding, in all four cases
-abbrev pub AreOrdered : Spans → Type 0
-AreOrdered times = times.renew ≤ times.rebind
+-- the times of a lease are in order, in all four cases
+ordered : (renew rebind end : ℕ) → renew ≤ rebind → rebind ≤ end → AreOrdered (spans_with renew rebind end)
+ordered renew rebind end renewal rebinding = record { renewal = renewal; rebinding = rebinding }
 
 default_ordered : (lease : ℕ) → AreOrdered (default_spans lease)
-default_ordered lease = omega arith
+default_ordered lease = ordered (lease / 2) (lease * 7 / 8) lease (omega arith) (omega arith)
 
 either : (test : Bool) (times : Spans) (lease : ℕ) → (test ≡ true → AreOrdered times) → AreOrdered (cond test times (default_spans lease))
 either true times lease good = good refl
@@ -58,11 +58,13 @@ either false times lease good = default_ordered lease
 pub spans_ordered : (lease : ℕ) (renew rebind : Option ℕ) → AreOrdered (spans lease renew rebind)
 spans_ordered lease (Some renew) (Some rebind) =
     either (nat_lt (renew * 1000000) (rebind * 1000000) && nat_lt (rebind * 1000000) lease)
-    (spans_with (renew * 1000000) (rebind * 1000000) lease) lease (λ both. grind (arith, tests))
+    (spans_with (renew * 1000000) (rebind * 1000000) lease) lease
+    (λ both. ordered (renew * 1000000) (rebind * 1000000) lease (grind (arith, tests)) (grind (arith, tests)))
 spans_ordered lease (Some renew) None =
     either (nat_lt (renew * 1000000) lease)
-    (spans_with (renew * 1000000) (renew * 1000000 + (lease - renew * 1000000) * 3 / 4) lease) lease (λ test. omega arith)
+    (spans_with (renew * 1000000) (renew * 1000000 + (lease - renew * 1000000) * 3 / 4) lease) lease
+    (λ test. ordered (renew * 1000000) (renew * 1000000 + (lease - renew * 1000000) * 3 / 4) lease (omega arith) (grind (arith, tests)))
 spans_ordered lease None (Some rebind) =
     either (nat_lt (rebind * 1000000) lease) (spans_with (min (lease / 2) (rebind * 1000000)) (rebind * 1000000) lease) lease
-    (λ test. omega arith)
+    (λ test. ordered (min (lease / 2) (rebind * 1000000)) (rebind * 1000000) lease (omega arith) (grind (arith, tests)))
 spans_ordered lease None None = default_ordered lease

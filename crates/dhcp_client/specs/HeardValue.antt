@@ -6,14 +6,15 @@ use Rattle.dhcp_client.specs.declared.heard.LeaseSpans.{LeaseSpans}
 use Rattle.dhcp_client.specs.Times.{Spans, spans_with}
 use Rattle.dhcp_client.specs.Heard.{Granted, Heard, Nothing, AnOffer, AnAck, ARefusal}
 
+abbrev pub spans_value : LeaseSpans → Spans
+spans_value times = spans_with times.renew times.rebind times.end
+
 abbrev pub granted_value : declared_granted.Granted → Granted
 granted_value granted = record {
   address = granted.address;
   router = granted.router;
   dns_servers = granted.dns_servers.items;
-  renew_at = granted.renew_at;
-  rebind_at = granted.rebind_at;
-  expires_at = granted.expires_at;
+  times = spans_value granted.times;
 }
 
 abbrev pub heard_value : declared_heard.Heard → Heard
@@ -21,6 +22,3 @@ heard_value variant.Nothing = Nothing
 heard_value (variant.Offer server address) = AnOffer server address
 heard_value (variant.Ack granted) = AnAck (granted_value granted)
 heard_value variant.Refusal = ARefusal
-
-abbrev pub spans_value : LeaseSpans → Spans
-spans_value times = spans_with times.renew times.rebind times.end

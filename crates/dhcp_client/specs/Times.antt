@@ -1,5 +1,5 @@
 -- The times of a lease, in microseconds from its acknowledgement (RFC 2131, section 4.4.5), and those between messages.
-use Rattle.std.specs.Prelude.{ℕ, ◌+◌, ◌-◌, ◌*◌, ◌/◌, ◌^◌, ◌&&◌, Option, Some, None, nat_lt, min, max, if◌then◌else◌}
+use Rattle.std.specs.Prelude.{ℕ, ◌+◌, ◌-◌, ◌*◌, ◌/◌, ◌^◌, ◌≤◌, ◌&&◌, Option, Some, None, nat_lt, min, max, if◌then◌else◌}
 use Rattle.net_wire.specs.Time.{saturated}
 
 -- renewal, rebinding and end
@@ -42,6 +42,15 @@ spans lease (Some renew) None =
 spans lease None (Some rebind) =
     if nat_lt (rebind * 1000000) lease then spans_with (min (lease / 2) (rebind * 1000000)) (rebind * 1000000) lease else default_spans lease
 spans lease None None = default_spans lease
+
+-- renewal, rebinding and end come in this order
+pub record AreOrdered (times : Spans) : Type 0 where
+  pub renewal : times.renew ≤ times.rebind
+  pub rebinding : times.rebind ≤ times.end
+
+-- whatever a server gave
+abbrev pub TimesAreOrdered : Type 0
+TimesAreOrdered = (lease : ℕ) (renew rebind : Option ℕ) → AreOrdered (spans lease renew rebind)
 
 -- from a request to the next one: the first timeout, doubled every two requests
 abbrev pub request_span : ℕ → ℕ → ℕ

@@ -3,7 +3,7 @@ ghost use Rattle.std.specs.Prelude.{◌≡◌, ◌+◌, ◌-◌, ◌*◌, ◌/�
 ghost use Rattle.std.specs.Option.{option_map};
 ghost use Rattle.net_wire.specs.DhcpMessage.{message_of};
 ghost use Rattle.dhcp_client.specs.Config.{client_settings};
-ghost use Rattle.dhcp_client.specs.Heard.{ack_heard, granted_by, heard_by_type, heard_from, offer_heard, prefix_of, servers_in, Nothing, ARefusal};
+ghost use Rattle.dhcp_client.specs.Heard.{ack_heard, granted_by, heard_by_type, heard_from, offer_heard, prefix_of, servers_in, Nothing, ARefusal, IsShort};
 ghost use Rattle.dhcp_client.specs.HeardValue.{granted_value, heard_value, spans_value};
 ghost use Rattle.dhcp_client.specs.Hearing.{same_router};
 ghost use Rattle.dhcp_client.specs.Times.{default_spans, lease_span, spans, spans_with};
@@ -18,9 +18,7 @@ pub(crate) struct Granted {
     pub address: Ipv4Cidr,
     pub router: Option<Ipv4Address>,
     pub dns_servers: ArrayVec<Ipv4Address, 3>,
-    pub renew_at: Instant,
-    pub rebind_at: Instant,
-    pub expires_at: Instant,
+    pub times: LeaseSpans,
 }
 
 /// What a message says to the client.
@@ -102,7 +100,7 @@ fn place_of(number: u32, numbers: &[u32]) -> Option<usize>
 /// How long a lease runs.
 fn lease_span(cap: Option<Duration>, secs: Option<u32>) -> u64
     ensures value { result ≡ lease_span cap secs }
-    ensures within { result < 2 ^ 53 }
+    ensures within { result < 2 ^ 32 * 1000000 }
 {
     let span = match secs {
         Some(secs) => secs as u64 * MICROS,
@@ -116,7 +114,8 @@ fn lease_span(cap: Option<Duration>, secs: Option<u32>) -> u64
 
 fn default_spans(lease: u64) -> LeaseSpans
     requires { lease < 2 ^ 53 }
-    ensures { spans_value result ≡ default_spans lease }
+    ensures end { result.end ≡ lease }
+    ensures value { spans_value result ≡ default_spans lease }
 {
     LeaseSpans {
         renew: lease / 2,
@@ -128,7 +127,8 @@ fn default_spans(lease: u64) -> LeaseSpans
 /// The times of a lease, by those that the server gave in seconds.
 fn lease_spans(lease: u64, renew: Option<u32>, rebind: Option<u32>) -> LeaseSpans
     requires { lease < 2 ^ 53 }
-    ensures { spans_value result ≡ spans lease renew rebind }
+    ensures end { result.end ≡ lease }
+    ensures value { spans_value result ≡ spans lease renew rebind }
 {
     match (renew, rebind) {
         (Some(renew), Some(rebind)) => {
@@ -142,7 +142,8 @@ fn lease_spans(lease: u64, renew: Option<u32>, rebind: Option<u32>) -> LeaseSpan
 
 fn both_spans(lease: u64, renew: u64, rebind: u64) -> LeaseSpans
     requires { lease < 2 ^ 53 }
-    ensures { spans_value result
+    ensures end { result.end ≡ lease }
+    ensures value { spans_value result
         ≡ (if nat_lt renew rebind && nat_lt rebind lease then spans_with renew rebind lease else default_spans lease) }
 {
     if renew < rebind && rebind < lease {
@@ -158,7 +159,8 @@ fn both_spans(lease: u64, renew: u64, rebind: u64) -> LeaseSpans
 
 fn renew_spans(lease: u64, renew: u64) -> LeaseSpans
     requires { lease < 2 ^ 53 }
-    ensures { spans_value result
+    ensures end { result.end ≡ lease }
+    ensures value { spans_value result
         ≡ (if nat_lt renew lease then spans_with renew (renew + (lease - renew) * 3 / 4) lease else default_spans lease) }
 {
     if renew < lease {
@@ -174,7 +176,8 @@ fn renew_spans(lease: u64, renew: u64) -> LeaseSpans
 
 fn rebind_spans(lease: u64, rebind: u64) -> LeaseSpans
     requires { lease < 2 ^ 53 }
-    ensures { spans_value result
+    ensures end { result.end ≡ lease }
+    ensures value { spans_value result
         ≡ (if nat_lt rebind lease then spans_with (min (lease / 2) rebind) rebind lease else default_spans lease) }
 {
     if rebind < lease {
@@ -210,11 +213,12 @@ pub(crate) fn copy_of(servers: &ArrayVec<Ipv4Address, 3>) -> ArrayVec<Ipv4Addres
 }
 
 /// What an acknowledgement grants, where its mask has so many ones.
-fn grant(config: &ClientConfig<'_>, now: Instant, message: &DhcpRepr<'_>, prefix_len: u8) -> Granted
-    ensures { granted_value result ≡ granted_by (client_settings config.now) now (message_of message.now) prefix_len }
+fn grant(config: &ClientConfig<'_>, message: &DhcpRepr<'_>, prefix_len: u8) -> Granted
+    ensures value { granted_value result
+        ≡ granted_by (client_settings config.now) (message_of message.now) prefix_len }
+    ensures short { result.times.end < 2 ^ 32 * 1000000 }
 {
     let lease = lease_span(config.max_lease, message.lease_duration);
-    let spans = lease_spans(lease, message.renew_duration, message.rebind_duration);
     Granted {
         address: Ipv4Cidr {
             address: message.your_ip,
@@ -222,15 +226,14 @@ fn grant(config: &ClientConfig<'_>, now: Instant, message: &DhcpRepr<'_>, prefix
         },
         router: message.router,
         dns_servers: servers_of(&message.dns_servers),
-        renew_at: now + Duration::from_micros(spans.renew),
-        rebind_at: now + Duration::from_micros(spans.rebind),
-        expires_at: now + Duration::from_micros(spans.end),
+        times: lease_spans(lease, message.renew_duration, message.rebind_duration),
     }
 }
 
 /// What an acknowledgement says.
-fn ack(config: &ClientConfig<'_>, now: Instant, message: &DhcpRepr<'_>) -> Heard
-    ensures { heard_value result ≡ ack_heard (client_settings config.now) now (message_of message.now) }
+fn ack(config: &ClientConfig<'_>, message: &DhcpRepr<'_>) -> Heard
+    ensures value { heard_value result ≡ ack_heard (client_settings config.now) (message_of message.now) }
+    ensures short { IsShort (heard_value result) }
 {
     if !message.your_ip.is_unicast() {
         return Heard::Nothing;
@@ -241,22 +244,18 @@ fn ack(config: &ClientConfig<'_>, now: Instant, message: &DhcpRepr<'_>) -> Heard
     let Some(prefix_len) = prefix_of(mask) else {
         return Heard::Nothing;
     };
-    Heard::Ack(grant(config, now, message, prefix_len))
+    Heard::Ack(grant(config, message, prefix_len))
 }
 
 /// What a message of this server says, by its type.
-fn by_type(
-    config: &ClientConfig<'_>,
-    now: Instant,
-    server: ServerInfo,
-    message: &DhcpRepr<'_>,
-) -> Heard
-    ensures { heard_value result
-        ≡ heard_by_type (client_settings config.now) now server (message_of message.now) message.now.message_type }
+fn by_type(config: &ClientConfig<'_>, server: ServerInfo, message: &DhcpRepr<'_>) -> Heard
+    ensures value { heard_value result
+        ≡ heard_by_type (client_settings config.now) server (message_of message.now) message.now.message_type }
+    ensures short { IsShort (heard_value result) }
 {
     match message.message_type {
         DhcpMessageType::Offer => offer(server, message.your_ip),
-        DhcpMessageType::Ack => ack(config, now, message),
+        DhcpMessageType::Ack => ack(config, message),
         DhcpMessageType::Nak => refusal(config.ignore_naks),
         DhcpMessageType::Discover => Heard::Nothing,
         DhcpMessageType::Request => Heard::Nothing,
@@ -269,7 +268,8 @@ fn by_type(
 
 /// What an offer of an address says.
 fn offer(server: ServerInfo, address: Ipv4Address) -> Heard
-    ensures { heard_value result ≡ offer_heard server address }
+    ensures value { heard_value result ≡ offer_heard server address }
+    ensures short { IsShort (heard_value result) }
 {
     if address.is_unicast() {
         Heard::Offer(server, address)
@@ -280,7 +280,8 @@ fn offer(server: ServerInfo, address: Ipv4Address) -> Heard
 
 /// What a refusal says.
 fn refusal(ignore_naks: bool) -> Heard
-    ensures { heard_value result ≡ (if ignore_naks then Nothing else ARefusal) }
+    ensures value { heard_value result ≡ (if ignore_naks then Nothing else ARefusal) }
+    ensures short { IsShort (heard_value result) }
 {
     if ignore_naks {
         Heard::Nothing
@@ -292,12 +293,12 @@ fn refusal(ignore_naks: bool) -> Heard
 /// What a message from an address says.
 pub(crate) fn heard_from(
     config: &ClientConfig<'_>,
-    now: Instant,
     source: Ipv4Address,
     message: &DhcpRepr<'_>,
 ) -> Heard
-    ensures { heard_value result
-        ≡ heard_from (client_settings config.now) now source (message_of message.now) message.now.server_identifier }
+    ensures value { heard_value result
+        ≡ heard_from (client_settings config.now) source (message_of message.now) message.now.server_identifier }
+    ensures short { IsShort (heard_value result) }
 {
     match message.server_identifier {
         Some(identifier) => {
@@ -305,7 +306,7 @@ pub(crate) fn heard_from(
                 address: source,
                 identifier,
             };
-            by_type(config, now, server, message)
+            by_type(config, server, message)
         }
         None => Heard::Nothing,
     }
@@ -317,18 +318,18 @@ impl Granted {
     ghost use Rattle.dhcp_client.specs.HeardValue.{granted_value};
     ghost use Rattle.dhcp_client.specs.Hearing.{is_same_config};
 
-    /// The lease, with the server of its offer.
-    pub fn lease(&self, server: ServerInfo) -> Lease
-        ensures { result ≡ lease_with server (granted_value self.now) }
+    /// The lease from a moment on, with the server of its offer.
+    pub fn lease(&self, now: Instant, server: ServerInfo) -> Lease
+        ensures { result ≡ lease_with now server (granted_value self.now) }
     {
         Lease {
             server,
             address: self.address,
             router: self.router,
-            renew_at: self.renew_at,
-            rebind_at: self.rebind_at,
+            renew_at: now + Duration::from_micros(self.times.renew),
+            rebind_at: now + Duration::from_micros(self.times.rebind),
             rebinding: false,
-            expires_at: self.expires_at,
+            expires_at: now + Duration::from_micros(self.times.end),
         }
     }
 

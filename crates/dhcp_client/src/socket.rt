@@ -50,9 +50,9 @@ impl<'a> Socket<'a> {
     ghost use Rattle.dhcp_client.specs.Client.{new_client, poll_at_of, after_reset};
     ghost use Rattle.dhcp_client.specs.Config.{AreSettingsWritable, IsRequestList, client_settings, default_settings};
     ghost use Rattle.dhcp_client.specs.Event.{configuration_of, event_of, told_by};
-    ghost use Rattle.dhcp_client.specs.Heard.{heard_in, is_for, is_taken};
+    ghost use Rattle.dhcp_client.specs.Heard.{heard_in, heard_of, is_for, is_taken, IsShort};
     ghost use Rattle.dhcp_client.specs.HeardValue.{granted_value, heard_value};
-    ghost use Rattle.dhcp_client.specs.Hearing.{after_ack, after_heard, after_message, after_offer, after_refusal, with_packet};
+    ghost use Rattle.dhcp_client.specs.Hearing.{after_ack, after_heard, after_message, after_offer, after_refusal, ear_of, with_packet};
     ghost use Rattle.dhcp_client.specs.Lending.{RestsTold};
     ghost use Rattle.dhcp_client.specs.Plan.{Dispatched, plan_for};
 
@@ -167,6 +167,20 @@ impl<'a> Socket<'a> {
         self.config.client_port = client_port;
     }
 
+    /// The UDP port of servers.
+    pub fn server_port(&self) -> u16
+        ensures { result ≡ self.now.settings.server_port }
+    {
+        self.config.server_port
+    }
+
+    /// The UDP port of the client.
+    pub fn client_port(&self) -> u16
+        ensures { result ≡ self.now.settings.client_port }
+    {
+        self.config.client_port
+    }
+
     /// Gives a lease up, and discovers anew.
     pub fn reset(&mut self)
         ensures { self.new ≡ after_reset self.old }
@@ -225,6 +239,7 @@ impl<'a> Socket<'a> {
     pub fn process(&mut self, cx: &Context, src: Ipv4Address, payload: &[u8])
         ensures value { self.new
             ≡ after_message self.old cx.entry.now src payload.entry.now (message_at payload.entry.now) }
+        ensures short { IsShort (heard_of (ear_of self.old cx.entry.now) src (message_at payload.entry.now)) }
         ensures others { self.new.settings ≡ self.old.settings }
     {
         if let Ok(message) = DhcpRepr::parse(payload) {
@@ -238,10 +253,12 @@ impl<'a> Socket<'a> {
 
     /// What a message from an address says to this client.
     fn heard(&self, cx: &Context, src: Ipv4Address, message: &DhcpRepr<'_>) -> Heard
-        ensures { heard_value result ≡ heard_in self.now cx.entry.now src (message_of message.entry.now) }
+        ensures value { heard_value result
+            ≡ heard_in (ear_of self.now cx.entry.now) src (message_of message.entry.now) }
+        ensures short { IsShort (heard_value result) }
     {
         if self.is_for(cx, message) {
-            heard_from(&self.config, cx.now, src, message)
+            heard_from(&self.config, src, message)
         } else {
             Heard::Nothing
         }
@@ -249,7 +266,7 @@ impl<'a> Socket<'a> {
 
     /// Whether a message is for this hardware address, with the id of the message sent last.
     fn is_for(&self, cx: &Context, message: &DhcpRepr<'_>) -> bool
-        ensures { result ≡ is_for self.now cx.entry.now (message_of message.entry.now) }
+        ensures { result ≡ is_for (ear_of self.now cx.entry.now) (message_of message.entry.now) }
     {
         message.client_hardware_address == cx.hardware_addr
             && message.transaction_id == self.transaction_id
@@ -257,7 +274,7 @@ impl<'a> Socket<'a> {
 
     /// Whether a message is one of a server to this client.
     fn is_taken(&self, cx: &Context, message: &DhcpRepr<'_>) -> bool
-        ensures { result ≡ is_taken self.now cx.entry.now (message_of message.entry.now) }
+        ensures { result ≡ is_taken (ear_of self.now cx.entry.now) (message_of message.entry.now) }
     {
         self.is_for(cx, message) && message.server_identifier.is_some()
     }
@@ -277,7 +294,7 @@ impl<'a> Socket<'a> {
         match heard {
             Heard::Nothing => {}
             Heard::Offer(server, address) => self.take_offer(server, address, now),
-            Heard::Ack(granted) => self.take_ack(granted),
+            Heard::Ack(granted) => self.take_ack(granted, now),
             Heard::Refusal => self.take_refusal(),
         }
     }
@@ -299,13 +316,13 @@ impl<'a> Socket<'a> {
         }
     }
 
-    fn take_ack(&mut self, granted: Granted)
-        ensures { self.new ≡ after_ack self.old.state (granted_value granted) self.old }
+    fn take_ack(&mut self, granted: Granted, now: Instant)
+        ensures { self.new ≡ after_ack self.old.state (granted_value granted) now self.old }
     {
         match self.state {
             ClientState::Discovering { .. } => {}
             ClientState::Requesting { server, .. } => {
-                self.state = ClientState::Renewing(granted.lease(server));
+                self.state = ClientState::Renewing(granted.lease(now, server));
                 self.dns_servers = granted.dns_servers;
                 self.config_changed = true;
             }
@@ -313,7 +330,7 @@ impl<'a> Socket<'a> {
                 let _options = self.config.options;
                 let same = granted.is_same_config(&lease, &self.dns_servers);
                 let keeps = self.receive_packet_buffer.is_some();
-                self.state = ClientState::Renewing(granted.lease(lease.server));
+                self.state = ClientState::Renewing(granted.lease(now, lease.server));
                 self.dns_servers = granted.dns_servers;
                 self.config_changed = self.config_changed || !same || keeps;
             }
