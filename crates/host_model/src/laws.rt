@@ -3,8 +3,17 @@ ghost use Rattle.std.specs.Prelude.{◌≡◌, pos, replicate};
 ghost use Rattle.host_model.specs.Chronicle.{GrowsByEntry};
 ghost use Rattle.host_model.specs.Classes.{IsOneOfThree};
 ghost use Rattle.host_model.specs.Examples.{SendsAtReset, SendsAtEachReset, SendsEveryTimeout};
+ghost use Rattle.host_model.specs.Foreign.{ForeignFramesChangeNothing};
+ghost use Rattle.host_model.specs.ForeignExamples.{ForeignByExample};
+ghost use Rattle.host_model.specs.HopExamples.{NetworksByExample, NeighborsByExample, BroadcastsByExample};
+ghost use Rattle.host_model.specs.Hops.{NetworksArePrefixes, HopsAreNeighbors, HopsAreKnown};
+ghost use Rattle.host_model.specs.LifeExamples.{RequestsAtOnce, EndsRetries, Leases, EndsAtOnce, LosesByReset};
 ghost use Rattle.host_model.specs.Parts.{NoEventIsRefused};
+ghost use Rattle.host_model.specs.RenewalExamples.{Asks, Forgets, Renews, RenewsAtEnd};
+ghost use Rattle.host_model.specs.ReplyExamples.{HearsWholeFrames, Refuses, Replies};
+ghost use Rattle.host_model.specs.Roots.{AnchorsAreRooted};
 ghost use Rattle.host_model.specs.Script.{BeginsWithOne};
+ghost use Rattle.host_model.specs.Sizes.{ListedFitsFrames};
 ghost use Rattle.host_model.specs.TickScripts.{TicksAreScripts};
 
 use net_wire::{EthernetAddress, Instant, Ipv4Address};
@@ -40,6 +49,76 @@ pub fn resets_send_at_once()
 /// What is sent in an event is found from the entries before it: no later event changes it.
 pub fn grows_by_entry()
     ensures { GrowsByEntry }
+{}
+
+/// The addresses on the network of a held address are those that begin with its prefix.
+pub fn networks_are_prefixes()
+    ensures { NetworksArePrefixes }
+{}
+
+/// The hop at an address is known exactly where a packet told of it in the last 60 seconds, and is
+/// what the last one told.
+pub fn hops_are_neighbors()
+    ensures { HopsAreNeighbors }
+{}
+
+/// The hop of a destination is known exactly where the destination is all hosts of the link, or
+/// where the station told that its datagrams go to next.
+pub fn hops_are_known()
+    ensures { HopsAreKnown }
+{}
+
+/// Closed examples: prefixes of no, of some and of all bits; how long a station is known, and by
+/// which of two packets; the address of all hosts of the link, as a destination and as a router's.
+pub fn hops_by_example()
+    ensures networks { NetworksByExample }
+    ensures neighbors { NeighborsByExample }
+    ensures broadcasts { BroadcastsByExample }
+{}
+
+/// What an anchor says is what the events at its places brought.
+pub fn anchors_are_rooted()
+    ensures { AnchorsAreRooted }
+{}
+
+/// A frame that is not for the host changes nothing: with a tick in its place every event has the
+/// same effect.
+pub fn foreign_frames_change_nothing()
+    ensures { ForeignFramesChangeNothing }
+{}
+
+/// All that is listed has the sizes of its fields, whatever arrived.
+pub fn listed_fits_frames()
+    ensures { ListedFitsFrames }
+{}
+
+/// Closed examples: which frames are not for the host.
+pub fn foreign_by_example()
+    ensures { ForeignByExample }
+{}
+
+/// Closed examples: an offer is requested, and a lease begins.
+pub fn leases_begin()
+    ensures at_once { RequestsAtOnce }
+    ensures retries { EndsRetries }
+    ensures leases { Leases }
+    ensures at_end { EndsAtOnce }
+    ensures reset { LosesByReset }
+{}
+
+/// Closed examples: a lease is renewed, to the server where its station is known, and ends.
+pub fn leases_are_renewed()
+    ensures renews { Renews }
+    ensures at_end { RenewsAtEnd }
+    ensures asks { Asks }
+    ensures forgets { Forgets }
+{}
+
+/// Closed examples: which frames count, and which get a reply.
+pub fn frames_count()
+    ensures whole { HearsWholeFrames }
+    ensures refuses { Refuses }
+    ensures replies { Replies }
 {}
 
 /// The constants of addresses are all stations of a link (IEEE 802.3, section 3.2.3), no address and all

@@ -2,7 +2,11 @@
 //! anything: an id, a due and a message are read off the positions and times of what went before.
 #![tactic(auto)]
 
+pub mod held;
 pub mod laws;
+pub mod neighbor;
 pub mod words;
 
+pub use held::Held;
+pub use neighbor::Neighbor;
 pub use words::EventWords;

@@ -1,0 +1,107 @@
+-- All that is listed fits a frame.
+use Rattle.std.proofs.Common.{List, [], ◌∷◌, ◌++◌, Option, Some, None, refl, arith}
+use Rattle.std.specs.List.{AllByRecursion}
+use Rattle.std.proofs.lemmas.Bool.{cond_both}
+use Rattle.net_wire.specs.declared.address.EthernetAddress.{EthernetAddress}
+use Rattle.net_wire.specs.declared.address.Ipv4Address.{Ipv4Address}
+use Rattle.net_wire.specs.declared.arp.ArpRepr.{ArpRepr}
+use Rattle.dhcp_client.specs.Config.{AreSettingsWritable}
+use Rattle.host_model.specs.declared.held.Held.{Held}
+use Rattle.host_model.specs.declared.words.EventWords.{EventWords}
+use Rattle.host_model.specs.Script.{Event}
+use Rattle.host_model.specs.Settings.{Settings}
+use Rattle.host_model.specs.History.{Entry, Transmission}
+use Rattle.host_model.specs.Frames.{Listed, asks_for, dhcp_frames, frames_of, replies, reply_to, requests, sent_or_asked}
+use Rattle.host_model.specs.Frames as listed
+use Rattle.host_model.specs.Lease.{held_before}
+use Rattle.host_model.specs.Named.{named_message}
+use Rattle.host_model.specs.Neighbor.{hop_address, known_hop, told_by}
+use Rattle.host_model.specs.Sizes.{FitsFrame, HasSix}
+use Rattle.host_model.proofs.AnchorSizeLemmas.{HasSixIn, HoldsFoursIn, held_fours, hop_fours, hop_six, told_sender}
+use Rattle.host_model.proofs.ReadSizeLemmas.{HasFourIn, HasSender}
+use Rattle.host_model.proofs.SentSizeLemmas.{FitsMessage, FitsMessageIn, named_fits}
+
+abbrev AllFit : List Listed → Type 0
+AllFit listed = AllByRecursion FitsFrame listed
+
+both_fit : (some more : List Listed) → AllFit some → AllFit more → AllFit (some ++ more)
+both_fit [] more fit more_fit = more_fit
+both_fit (one ∷ some) more fit more_fit = (fit.0, both_fit some more fit.1 more_fit)
+
+module _ (settings : Settings) (six : HasSix settings.hardware)
+    (writable : AreSettingsWritable settings.client settings.ip_mtu) where
+  replies_fit : (held : Option Held) (told : Option ArpRepr) → HoldsFoursIn held → HasSender told
+      → AllFit (replies settings.hardware held told)
+  replies_fit None told holds sender = tt
+  replies_fit (Some held) None holds sender = tt
+  replies_fit (Some held) (Some arp) holds sender =
+      cond_both (asks_for held arp)
+      (listed.ArpReply arp.source_hardware_addr (reply_to settings.hardware held arp) ∷ []) [] AllFit
+      (λ asks. (
+        (
+          sender.0,
+          record {
+            operation = omega arith;
+            source_hardware = six;
+            source_protocol = holds.address;
+            target_hardware = sender.0;
+            target_protocol = sender.1;
+          },
+        ),
+        tt,
+      ))
+      (λ other. tt)
+
+  requests_fit : (held : Option Held) (address : Option Ipv4Address) → HoldsFoursIn held → HasFourIn address
+      → AllFit (requests settings.hardware held address)
+  requests_fit None address holds four = tt
+  requests_fit (Some held) None holds four = tt
+  requests_fit (Some held) (Some address) holds four = (
+    (
+      refl,
+      record {
+        operation = omega arith;
+        source_hardware = six;
+        source_protocol = holds.address;
+        target_hardware = refl;
+        target_protocol = four;
+      },
+    ),
+    tt,
+  )
+
+  sent_fits : (held : Option Held) (transmission : Transmission) (hop : Option EthernetAddress)
+      → HoldsFoursIn held → FitsMessage transmission → HasSixIn hop
+      → AllFit (sent_or_asked settings.hardware held transmission hop)
+  sent_fits held transmission (Some hop) holds fits station = (
+    record {
+      hop = station;
+      source = fits.source;
+      destination = fits.destination;
+      payload = fits.payload;
+    },
+    tt,
+  )
+  sent_fits held transmission None holds fits station =
+      requests_fit held (hop_address held transmission.destination) holds
+      (hop_fours held transmission.destination holds fits.destination)
+
+  dhcp_fits : (before : List Entry) (event : Event) (message : Option Transmission) → FitsMessageIn message
+      → AllFit (dhcp_frames settings.hardware (held_before settings before) (known_hop settings before event)
+      message)
+  dhcp_fits before event None fits = tt
+  dhcp_fits before event (Some transmission) fits =
+      sent_fits (held_before settings before) transmission
+      (known_hop settings before event transmission.destination) (held_fours settings before) fits
+      (hop_six settings before event transmission.destination)
+
+  pub frames_fit : (before : List Entry) (event : Event) (words : EventWords)
+      → AllFit (frames_of settings before event words)
+  frames_fit before event words =
+      both_fit (replies settings.hardware (held_before settings before) (told_by settings event.arrival))
+      (dhcp_frames settings.hardware (held_before settings before) (known_hop settings before event)
+      (named_message settings before event words))
+      (replies_fit (held_before settings before) (told_by settings event.arrival) (held_fours settings before)
+      (told_sender settings event.arrival))
+      (dhcp_fits before event (named_message settings before event words)
+      (named_fits settings six writable before event words))
