@@ -7,6 +7,10 @@ use Rattle.host_model.specs.declared.words.EventWords.{EventWords}
 use Rattle.host_model.specs.Script.{Event}
 use Rattle.host_model.specs.Settings.{Settings}
 use Rattle.host_model.specs.History.{Entry}
+use Rattle.host_model.specs.Frames.{frames_of}
+use Rattle.host_model.specs.Lease.{held_before}
+use Rattle.host_model.specs.Named.{named_message}
+use Rattle.host_model.specs.Neighbor.{known_hop, told_by}
 use Rattle.host_model.specs.Chronicle.{entry_at, entry_of, words_at}
 use Rattle.net_host.specs.declared.host.Handled.{Handled}
 use Rattle.net_host.specs.declared.host.Host.{Host}
@@ -17,9 +21,11 @@ use Rattle.net_host.specs.Agreement.{AgreesWithHistory}
 use Rattle.net_host.specs.Handling.{HandlesEvent}
 use Rattle.net_host.specs.Reading.{arrival_of, event_at}
 use Rattle.net_host.specs.Report.{new_row}
-use Rattle.net_host.specs.Rows.{kind_of, IsNoteFor, IsRowOf, AreFramesOf, dhcp_frames}
+use Rattle.net_host.specs.Rows.{kind_of, IsNoteFor, IsRowOf}
+use Rattle.net_host.specs.Listed.{AreListed}
 use Rattle.net_host.specs.Config.{CanRun}
 use Rattle.net_host.specs.Taking.{Standing, standing, PlacesRow}
+use Rattle.net_host.proofs.MarkedLemmas.{marked}
 
 -- the row of an event, placed and then filled in
 abbrev pub place_row : (at : ℤ) (event : ScriptEvent) (words : EventWords) (host_old host_new : Host) (captured_old captured_new : Option (List ℕ))
@@ -52,14 +58,18 @@ placed settings words before at event drawn old new places is_time can agrees ar
     let is_entry : entry_of settings before (event_at at event) drawn ≡ entry_at settings words before (event_at at event) =
     ap (entry_of settings before (event_at at event)) are_drawn in
     let P : Entry → Type 0 = λ entry. AgreesWithHistory settings (entry ∷ before) new.host in
-    let Q : Entry → Type 0 = λ entry. AreFramesOf settings entry.sent (dhcp_frames places.row.sent) in
+    let Q : Entry → Type 0 = λ entry. AreListed settings (frames_of settings before entry.event entry.words) places.row.sent in
+    let sent = subst Q is_entry handled.frames in
+    let e = event_at at event in
     record {
       row_of = record {
         time = places.time ∙ is_time;
         kind = places.kind;
         note = places.note;
         lease = handled.lease;
-        dhcp = subst Q is_entry handled.frames;
+        sent = sent;
+        dhcp = marked settings (held_before settings before) (told_by settings e.arrival) (known_hop settings before e)
+            (named_message settings before e (words_at words (length before))) places.row.sent sent;
       };
       agrees = subst P is_entry handled.agrees;
     }

@@ -1,5 +1,5 @@
 -- What a run leaves that the capture or want of memory stopped.
-use Rattle.std.proofs.Common.{◌≡◌, ℕ, ◌⊎◌, inl, inr, ⊎_elim, ℤ, pos, List, [], ◌∷◌, ◌++◌, Option, ap, sym, subst, ◌∙◌, refl, arith, append-nil}
+use Rattle.std.proofs.Common.{◌≡◌, ℕ, ◌⊎◌, inl, inr, ⊎_elim, ℤ, pos, List, [], ◌∷◌, ◌++◌, Option, ap, sym, subst, ◌∙◌, refl, arith, append-nil, ◌*◌, ◌+◌, ◌≤◌, length, length-append}
 use Rattle.std.specs.Io.KnownBytes.{Consumes}
 use Rattle.std.proofs.KnownBytes.{Consumes-nil}
 use Rattle.wire_base.specs.Causes.{AppendsFront}
@@ -7,6 +7,8 @@ use Rattle.phy_layers.specs.PcapBytes.{epoch_micros, global_header}
 use Rattle.phy_layers.specs.declared.byte_sink.SinkError.{SinkError}
 use Rattle.phy_layers.specs.declared.byte_sink.SinkError.TheVariants as sink
 use Rattle.phy_layers.proofs.SinkLemmas.{AppendsFront-then, AppendsFront-longer}
+use Rattle.std.specs.Option.{option_map}
+use Rattle.host_model.specs.declared.held.Held.{Held}
 use Rattle.host_model.specs.Script.{Event}
 use Rattle.host_model.specs.declared.words.EventWords.{EventWords}
 use Rattle.host_model.specs.Chronicle.{history, words_at}
@@ -16,6 +18,7 @@ use Rattle.net_host.specs.declared.run_script.RunError.TheVariants.{NoMemory}
 use Rattle.net_host.specs.declared.script.ScriptEvent.{ScriptEvent}
 use Rattle.net_host.specs.Captured.{arrived_record, sent_records, event_records, run_capture}
 use Rattle.net_host.specs.Config.{CanRun}
+use Rattle.net_host.specs.Holding.{host_lease}
 use Rattle.net_host.specs.Outside.{Outside}
 use Rattle.net_host.specs.ReaderState.{ReaderState}
 use Rattle.net_host.specs.Reading.{event_at, GivesEvent}
@@ -40,7 +43,7 @@ none_answered : (task : Task) (before after : Outside) (report : List Row) (Rows
 unfolding none_taken
 none_answered task before after report Rows empty same rows front =
     let Q : List ℕ → Type 0 = λ l. AppendsFront before.captured after.captured l in
-    record { taken = none_taken task before after same; whole = refl; rows = rows; captured = subst Q (sym (append-nil (global_header 1))) front }
+    record { taken = none_taken task before after same; whole = refl; enough = omega arith; rows = rows; captured = subst Q (sym (append-nil (global_header 1))) front }
 
 no_rows : (task : Task) (report : List Row) → report ≡ [] → HasRows task report []
 no_rows task report empty =
@@ -62,15 +65,21 @@ nothing_run task before report empty =
     none_answered task before before report (λ events. HasRows task report events ⊎ LacksRow task report events) empty refl
     (inl (no_rows task report empty)) (no_front before.captured (global_header 1))
 
+-- three words an event, with the one that was taken last
+enough_with : (task : Task) (events : List Event) (event : Event) (place : ℕ) → length events ≡ place
+    → 3 * (place + 1) ≤ length task.words → 3 * length (events ++ event ∷ []) ≤ length task.words
+enough_with task events event place counted enough = omega (arith, counted, length-append events (event ∷ []), enough)
+
 -- the row of the event is placed
 pub row_leaves : (task : Task) (before now after : Outside) (old new : ReaderState) (host_old host_new : Host) (report_old report_new : List Row)
     (at : ℤ) (event : ScriptEvent) (drawn : EventWords)
     → Progress task before now old host_old report_old → CanRun task.settings → drawn ≡ words_at task.words old.events
+    → 3 * (old.events + 1) ≤ length task.words
     → GivesEvent task.max old new now.left after.left at event
     → LeavesRow at event drawn (standing host_old now.captured report_old) (standing host_new after.captured report_new)
     → Interrupted task before after report_new (HasRows task report_new)
 unfolding taken_next
-row_leaves task before now after old new host_old host_new report_old report_new at event drawn progress can are_drawn gives leaves =
+row_leaves task before now after old new host_old host_new report_old report_new at event drawn progress can are_drawn enough gives leaves =
     let e = event_at at event in
     let answered = progress.answered in
     let counted = rows_count task.settings task.words [] progress.events report_old answered.rows in
@@ -79,11 +88,12 @@ row_leaves task before now after old new host_old host_new report_old report_new
     let U : List Row → Type 0 = λ rows. AreRows task.settings task.words (progress.events ++ e ∷ []) rows in
     ⊎_elim
     (λ (begun : LeavesNewRow at event (standing host_old now.captured report_old) (standing host_new after.captured report_new)).
-    let row = new_row at (kind_of e.arrival) begun.note host_old.lease in
+    let row = new_row at (kind_of e.arrival) begun.note (host_lease host_old) in
     let grown = capture_push progress.events report_old e row counted in
     record {
       taken = taken_next task before now after old new host_old report_old at event progress gives;
       whole = refl;
+      enough = enough_with task progress.events e old.events progress.counted enough;
       rows = inr (record {
         earlier = progress.events;
         event = e;
@@ -91,8 +101,8 @@ row_leaves task before now after old new host_old host_new report_old report_new
         note = begun.note;
         noted = begun.noted;
         event_last = refl;
-        row_last = begun.placed ∙ ap (λ t. report_old ++ new_row t (kind_of e.arrival) begun.note host_old.lease ∷ []) gives.time
-            ∙ ap (λ l. report_old ++ new_row (pos (epoch_micros at)) (kind_of e.arrival) begun.note l ∷ []) progress.agrees.lease;
+        row_last = begun.placed ∙ ap (λ t. report_old ++ new_row t (kind_of e.arrival) begun.note (host_lease host_old) ∷ []) gives.time
+            ∙ ap (λ l. report_old ++ new_row (pos (epoch_micros at)) (kind_of e.arrival) begun.note l ∷ []) (ap (option_map (λ (h : Held). h.address)) progress.agrees.held);
         rows = answered.rows;
       });
       captured = subst S (sym begun.placed) (subst T (sym grown)
@@ -107,6 +117,7 @@ row_leaves task before now after old new host_old host_new report_old report_new
     record {
       taken = taken_next task before now after old new host_old report_old at event progress gives;
       whole = refl;
+      enough = enough_with task progress.events e old.events progress.counted enough;
       rows = inl (subst U (sym front.places.placed)
           (rows_push task.settings task.words [] progress.events report_old e front.places.row answered.rows done.row_of));
       captured = subst S (sym front.places.placed) (subst T (sym grown)
@@ -119,11 +130,12 @@ row_leaves task before now after old new host_old host_new report_old report_new
 pub event_leaves : (task : Task) (before now after : Outside) (old new : ReaderState) (host_old host_new : Host) (report_old report_new : List Row)
     (at : ℤ) (event : ScriptEvent) (drawn : EventWords)
     → Progress task before now old host_old report_old → CanRun task.settings → drawn ≡ words_at task.words old.events
+    → 3 * (old.events + 1) ≤ length task.words
     → GivesEvent task.max old new now.left after.left at event
     → LeavesEvent at event drawn (standing host_old now.captured report_old) (standing host_new after.captured report_new)
     → Leaves task before after report_new NoMemory
 unfolding taken_next
-event_leaves task before now after old new host_old host_new report_old report_new at event drawn progress can are_drawn gives leaves =
+event_leaves task before now after old new host_old host_new report_old report_new at event drawn progress can are_drawn enough gives leaves =
     let e = event_at at event in
     let answered = progress.answered in
     let counted = rows_count task.settings task.words [] progress.events report_old answered.rows in
@@ -134,11 +146,12 @@ event_leaves task before now after old new host_old host_new report_old report_n
     (λ (none : LeavesNoRow (standing host_old now.captured report_old) (standing host_new after.captured report_new)). record {
       taken = taken_next task before now after old new host_old report_old at event progress gives;
       whole = refl;
+      enough = enough_with task progress.events e old.events progress.counted enough;
       rows = inr (record { earlier = progress.events; event = e; event_last = refl; rows = subst R (sym none.same) answered.rows });
       captured = subst S (sym none.same) (subst T (sym (capture_short progress.events report_old e counted))
           (kept_front before.captured now.captured after.captured (run_capture progress.events report_old) answered.captured none.kept));
     })
     (λ (row : LeavesRow at event drawn (standing host_old now.captured report_old) (standing host_new after.captured report_new)).
-    let left = row_leaves task before now after old new host_old host_new report_old report_new at event drawn progress can are_drawn gives row in
-    record { taken = left.taken; whole = left.whole; rows = inl left.rows; captured = left.captured })
+    let left = row_leaves task before now after old new host_old host_new report_old report_new at event drawn progress can are_drawn enough gives row in
+    record { taken = left.taken; whole = left.whole; enough = left.enough; rows = inl left.rows; captured = left.captured })
     leaves

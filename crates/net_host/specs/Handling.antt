@@ -5,6 +5,7 @@ use Rattle.host_model.specs.Settings.{Settings}
 use Rattle.host_model.specs.History.{Entry}
 use Rattle.host_model.specs.Anchor.{anchor_at}
 use Rattle.host_model.specs.Chronicle.{entry_of}
+use Rattle.host_model.specs.Frames.{frames_of}
 use Rattle.host_model.specs.Lease.{leased_under}
 use Rattle.net_host.specs.declared.host.Handled.{Handled}
 use Rattle.net_host.specs.declared.host.Host.{Host}
@@ -12,7 +13,9 @@ use Rattle.net_host.specs.declared.script.ScriptEvent.{ScriptEvent}
 use Rattle.net_host.specs.Agreement.{AgreesWithHistory}
 use Rattle.net_host.specs.Config.{CanRun}
 use Rattle.net_host.specs.Reading.{event_at}
-use Rattle.net_host.specs.Rows.{AreFramesOf, dhcp_frames}
+use Rattle.net_host.specs.Listed.{AreListed}
+use Rattle.net_host.specs.Neighbors.{HasRoom}
+use Rattle.net_host.specs.Polling.{IsReady}
 
 -- A history that the host agrees with before the event: it agrees with that and the event's entry after it,
 -- whose frames were sent, and gives the address that is leased then.
@@ -20,7 +23,12 @@ pub record Answers (settings : Settings) (before : List Entry) (at : ℤ) (event
     (handled : Handled) : Type 0 where
   pub agrees : AgreesWithHistory settings (entry_of settings before (event_at at event) words ∷ before) new
   pub lease : handled.lease ≡ leased_under (anchor_at settings before (event_at at event))
-  pub frames : AreFramesOf settings (entry_of settings before (event_at at event) words).sent (dhcp_frames handled.sent)
+  pub frames : AreListed settings (frames_of settings before (event_at at event) words) handled.sent
+
+-- what a host relies on in itself: its client is ready, and its table has an empty place
+pub record CanHandle (host : Host) : Type 0 where
+  pub ready : IsReady host.dhcp host.ip_mtu
+  pub room : HasRoom host.out.neighbors
 
 -- whatever the history is that the host agrees with
 abbrev pub HandlesEvent : ℤ → ScriptEvent → EventWords → Host → Host → Handled → Type 0

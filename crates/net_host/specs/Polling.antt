@@ -1,11 +1,10 @@
 -- What a host does with its DHCP client in an event: it dispatches while the client is due.
-use Rattle.std.specs.Prelude.{ℕ, ◌<◌, ◌≤ℤ◌, ◌<ℤ◌, Ok, Err, ⊤}
+use Rattle.std.specs.Prelude.{ℕ, ◌≤ℤ◌, ◌<ℤ◌, Ok, Err}
 use Rattle.net_wire.specs.declared.error.Context.{Context}
 use Rattle.net_wire.specs.declared.error.EmitError.TheVariants.{Unresolved}
-use Rattle.dhcp_client.specs.declared.state.ClientState.{ClientState}
-use Rattle.dhcp_client.specs.declared.state.ClientState.TheVariants.{Discovering, Requesting, Renewing}
 use Rattle.dhcp_client.specs.Client.{Client, poll_at_of}
 use Rattle.dhcp_client.specs.Config.{AreSettingsWritable}
+use Rattle.dhcp_client.specs.Ending.{HasTimeouts, IsOrdered}
 use Rattle.dhcp_client.specs.Plan.{plan_for, Dispatched}
 use Rattle.net_host.specs.declared.emitter.Emitter.{Emitter}
 use Rattle.net_host.specs.Emitter.{TakesMessage, RefusesMessage}
@@ -24,14 +23,8 @@ pub data Polled : Context → ℕ → Client → Emitter → Client → Emitter 
       → Dispatched TakesMessage RefusesMessage (plan_for client cx word) (Err Unresolved) client next out later
       → Polled cx word client out next later
 
--- the client has no offer and no lease: as long as it hears no frame, it discovers
-abbrev pub IsDiscovering : ClientState → Type 0
-IsDiscovering (Discovering retry_at) = ⊤
-IsDiscovering (Requesting retry_at retry server requested) = ⊥
-IsDiscovering (Renewing lease) = ⊥
-
--- what a host relies on in its client: it discovers, each message moves the due, and can be written
+-- what a host relies on in its client: its dues are in order, each message moves them, and can be written
 pub record IsReady (client : Client) (ip_mtu : ℕ) : Type 0 where
-  pub discovers : IsDiscovering client.state
-  pub timeout : 0 < client.settings.retry.discover_timeout
+  pub ordered : IsOrdered client.state
+  pub timeouts : HasTimeouts client.settings.retry
   pub writable : AreSettingsWritable client.settings ip_mtu

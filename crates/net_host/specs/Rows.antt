@@ -2,20 +2,17 @@
 use Rattle.std.specs.Prelude.{◌≡◌, ℕ, List, [], ◌∷◌, length, Option, Some, None, pos}
 use Rattle.ether_lax.specs.Notes.{IsNoteOf}
 use Rattle.ether_lax.specs.declared.note.FrameNote.{FrameNote}
-use Rattle.net_wire.specs.Datagram.{Datagram, IsSentFrame}
-use Rattle.net_wire.specs.DhcpBytes.{message_bytes}
 use Rattle.host_model.specs.Script.{Arrival, Tick, Reset, Frame, Event}
 use Rattle.host_model.specs.Settings.{Settings}
-use Rattle.host_model.specs.History.{Entry, SentMessage, Transmission}
+use Rattle.host_model.specs.Frames.{frames_of}
+use Rattle.host_model.specs.History.{Entry}
 use Rattle.host_model.specs.Anchor.{anchor_at}
 use Rattle.host_model.specs.Chronicle.{entry_at}
 use Rattle.host_model.specs.Lease.{leased_under}
 use Rattle.net_host.specs.declared.report.Kind.{Kind}
 use Rattle.net_host.specs.declared.report.Kind.TheVariants as kind
-use Rattle.net_host.specs.declared.report.Mark.{Mark}
-use Rattle.net_host.specs.declared.report.Mark.TheVariants.{Dhcp}
 use Rattle.net_host.specs.declared.report.Row.{Row}
-use Rattle.net_host.specs.declared.report.Sent.{Sent}
+use Rattle.net_host.specs.Listed.{AreFramesOf, AreListed, dhcp_frames}
 
 -- the kind of an event
 abbrev pub kind_of : Arrival → Kind
@@ -29,42 +26,15 @@ IsNoteFor Tick note = note ≡ None
 IsNoteFor Reset note = note ≡ None
 IsNoteFor (Frame bytes) note = (found : FrameNote) × (note ≡ Some found) × IsNoteOf bytes found
 
--- the frames that are marked as those of the DHCP client
-abbrev pub with_dhcp : Mark → List ℕ → List (List ℕ) → List (List ℕ)
-with_dhcp Dhcp frame frames = frame ∷ frames
-
-abbrev pub dhcp_frames : List Sent → List (List ℕ)
-dhcp_frames [] = []
-dhcp_frames (sent ∷ more) = with_dhcp sent.mark sent.frame (dhcp_frames more)
-
--- the datagram of a DHCP message, from the client's port to the server's
-abbrev pub datagram_for : Settings → Transmission → Datagram
-datagram_for settings transmission = record {
-  source = transmission.source;
-  destination = transmission.destination;
-  source_port = settings.client.client_port;
-  destination_port = settings.client.server_port;
-  payload = message_bytes transmission.message;
-}
-
--- The one frame of a message that was sent, from the host's hardware address to the message's hop, with hop
--- limit 64; without a message there is none.
-pub record IsFrameOf (settings : Settings) (sent : SentMessage) (frames : List (List ℕ)) : Type 0 where
-  pub frame : List ℕ
-  pub carries : IsSentFrame settings.hardware sent.hop 64 (datagram_for settings sent.transmission) frame
-  pub one : frames ≡ frame ∷ []
-
-abbrev pub AreFramesOf : Settings → Option SentMessage → List (List ℕ) → Type 0
-AreFramesOf settings None frames = frames ≡ []
-AreFramesOf settings (Some sent) frames = IsFrameOf settings sent frames
-
 -- The row of an event whose entry is this one: its time and kind, the note of the frame that arrived, if one
--- did, the address that is leased after it, and, marked as such, the one frame of its DHCP message, or none.
+-- did, the address that is leased after it, and the frames that are sent in it, in their order; those that are
+-- marked as the DHCP client's are the one frame of its message, or there is none.
 pub record IsRowOf (settings : Settings) (before : List Entry) (entry : Entry) (row : Row) : Type 0 where
   pub time : row.at ≡ pos entry.event.at
   pub kind : row.kind ≡ kind_of entry.event.arrival
   pub note : IsNoteFor entry.event.arrival row.note
   pub lease : row.lease ≡ leased_under (anchor_at settings before entry.event)
+  pub sent : AreListed settings (frames_of settings before entry.event entry.words) row.sent
   pub dhcp : AreFramesOf settings entry.sent (dhcp_frames row.sent)
 
 -- The rows are those of the events, one each, behind the entries `before`.

@@ -110,12 +110,13 @@ abbrev pub HasRows : Task → List Row → List Event → Type 0
 HasRows task report events =
     AreRows task.settings task.words events report ⊎ IsUnfinished task report events
 
--- A run that stopped inside an event, or in front of the first one: it took whole events and nothing behind
--- them, and the capture is a front of that of the rows.
+-- A run that stopped inside an event, or in front of the first one: it took whole events, each of which had
+-- three words, and nothing behind them, and the capture is a front of that of the rows.
 pub record Interrupted (task : Task) (before after : Outside) (report : List Row)
     (Rows : List Event → Type 0) : Type 0 where
   pub taken : Taken task before after
   pub whole : taken.part ≡ []
+  pub enough : 3 * length taken.events ≤ length task.words
   pub rows : Rows taken.events
   pub captured : AppendsFront before.captured after.captured (run_capture taken.events report)
 

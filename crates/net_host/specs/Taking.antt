@@ -11,6 +11,7 @@ use Rattle.net_host.specs.declared.report.Row.{Row}
 use Rattle.net_host.specs.declared.script.ScriptEvent.{ScriptEvent}
 use Rattle.net_host.specs.Captured.{arrived_record, event_records}
 use Rattle.net_host.specs.Handling.{HandlesEvent}
+use Rattle.net_host.specs.Holding.{host_lease}
 use Rattle.net_host.specs.Reading.{arrival_of, event_at}
 use Rattle.net_host.specs.Report.{new_row}
 use Rattle.net_host.specs.Rows.{kind_of, IsNoteFor}
@@ -52,7 +53,7 @@ pub record LeavesNoRow (old new : Standing) : Type 0 where
 pub record LeavesNewRow (at : ℤ) (event : ScriptEvent) (old new : Standing) : Type 0 where
   pub note : Option FrameNote
   pub noted : IsNoteFor (arrival_of event) note
-  pub placed : new.report ≡ old.report ++ new_row at (kind_of (arrival_of event)) note old.host.lease ∷ []
+  pub placed : new.report ≡ old.report ++ new_row at (kind_of (arrival_of event)) note (host_lease old.host) ∷ []
   pub captured : AppendsFront old.captured new.captured (arrived_record (epoch_micros at) (arrival_of event))
 
 -- the row is that of the event, and the capture grew by a front of its records

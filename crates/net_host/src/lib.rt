@@ -1,10 +1,14 @@
 //! The host: it reads a script of events, and answers each as the definitions of `host_model` say.
 #![tactic(auto)]
 
+mod arrival;
 pub mod config;
 mod emitter;
 pub mod event_reader;
+mod hops;
 mod host;
+pub mod laws;
+mod neighbors;
 pub mod report;
 pub mod run_script;
 pub mod script;

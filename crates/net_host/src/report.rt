@@ -25,6 +25,10 @@ pub enum Kind {
 pub enum Mark {
     /// It carries a message of the DHCP client.
     Dhcp,
+    /// It tells a station that asked for the leased address where that is.
+    ArpReply,
+    /// It asks all stations for the next hop of a datagram.
+    ArpRequest,
 }
 
 /// A frame that was sent.
@@ -81,13 +85,12 @@ impl SentList {
 }
 
 impl PartialEq for SentList {
-    ghost use Rattle.std.specs.Cmp.Lexicographic.{pointwise};
-    ghost use Rattle.std.specs.Cmp.Rules.{comparing};
-    ghost use Rattle.std.proofs.Common.{rules};
+    ghost use Rattle.std.specs.Cmp.Lexicographic.{pointwise, lists_per};
+    ghost use Rattle.net_host.specs.contracts.report.SentPartialEq.TheImpl.Laws.{laws-law};
 
     ghost eq = { pointwise ⟦<Sent as PartialEq>⟧.eq };
 
-    ghost laws = { Prim.search (comparing, rules) };
+    ghost laws = { lists_per laws-law };
 
     fn eq(&self, other: &SentList) -> bool {
         self.sent == other.sent
@@ -95,10 +98,10 @@ impl PartialEq for SentList {
 }
 
 impl Eq for SentList {
-    ghost use Rattle.std.specs.Cmp.Rules.{comparing};
-    ghost use Rattle.std.proofs.Common.{rules};
+    ghost use Rattle.std.specs.Cmp.Lexicographic.{lists_equiv};
+    ghost use Rattle.net_host.specs.contracts.report.SentEq.TheImpl.Laws.{laws-law};
 
-    ghost laws = { Prim.search (comparing, rules) };
+    ghost laws = { lists_equiv laws-law };
 }
 
 /// What an event brought about.

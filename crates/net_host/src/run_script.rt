@@ -1,5 +1,5 @@
 //! A whole run: a script in, a capture and a report out.
-ghost use Rattle.std.specs.Prelude.{◌≡◌, ℕ, ◌+◌, ◌*◌, ◌<◌, ◌≤◌, ◌⊎◌, ℤ, List, [], length, IfErr, IfSome, IfNone, OnOk};
+ghost use Rattle.std.specs.Prelude.{◌≡◌, ℕ, ◌+◌, ◌*◌, ◌<◌, ◌≤◌, ◌⊎◌, ℤ, List, [], length, IfErr, IfOk, IfSome, IfNone, OnOk};
 ghost use Rattle.std.specs.Result.{IsErrOf};
 ghost use Rattle.wire_base.specs.Causes.{IsRisen};
 ghost use Rattle.phy_layers.specs.Sink.{Took};
@@ -7,7 +7,10 @@ ghost use Rattle.phy_layers.specs.PcapBytes.{epoch_micros, IsCapturable};
 ghost use Rattle.host_model.specs.Chronicle.{words_at};
 ghost use Rattle.host_model.specs.Script.{IsArrival};
 ghost use Rattle.net_host.specs.Captured.{arrived_record, sent_records};
+ghost use Rattle.net_host.specs.Dissected.{IsPacketFor};
 ghost use Rattle.net_host.specs.Report.{AreCapturable};
+ghost use Rattle.net_host.specs.Handling.{CanHandle};
+ghost use Rattle.net_host.specs.Neighbors.{pair_count, place_count};
 ghost use Rattle.net_host.specs.Polling.{IsReady};
 ghost use Rattle.net_host.specs.Rows.{kind_of, IsNoteFor};
 ghost use Rattle.net_host.specs.Outside.{outside_of, IsQuiet};
@@ -16,12 +19,13 @@ ghost use Rattle.net_host.specs.Taking.{standing, TakesEvent, LeavesRow, LeavesE
 ghost use Rattle.net_host.specs.Reading.{arrival_of};
 
 use crate::host::Host;
+use crate::neighbors::Neighbors;
 use crate::{
     EventReader, HostConfig, Kind, ReadEventError, Report, ScriptEvent, ScriptSource, Sent,
 };
-use ether_lax::{FrameNote, note_of};
-use host_model::EventWords;
-use net_wire::{Instant, NoMemory};
+use ether_lax::{FrameNote, LaxSlicedPacket, NotedFrame, packet_and_note};
+use host_model::{EventWords, Neighbor};
+use net_wire::{Instant, Ipv4Address, NoMemory};
 use phy_layers::{PcapLinkType, PcapSink, SinkError};
 use std::alloc::Global;
 
@@ -114,15 +118,31 @@ fn kind_of(event: ScriptEvent<'_>) -> Kind
     }
 }
 
-/// What a row notes of a frame that arrived.
-fn note_for(event: ScriptEvent<'_>) -> Option<FrameNote>
+/// The note and the packet of the frame that an event brings.
+#[derive(Debug, Drop)]
+struct Dissected<'a> {
+    note: Option<FrameNote>,
+    packet: Option<LaxSlicedPacket<'a>>,
+}
+
+/// Dissects the frame that arrived, where one did.
+fn dissect(event: ScriptEvent<'_>) -> Dissected<'_>
     requires { IsArrival (arrival_of event) }
-    ensures { IsNoteFor (arrival_of event.entry) result }
+    ensures note { IsNoteFor (arrival_of event.entry) result.note }
+    ensures packet { IsPacketFor (arrival_of event.entry) result.packet }
 {
     match event {
-        ScriptEvent::Frame(frame) => Some(note_of(frame)),
-        ScriptEvent::Tick => None,
-        ScriptEvent::Reset => None,
+        ScriptEvent::Frame(frame) => {
+            let NotedFrame { packet, note } = packet_and_note(frame);
+            Dissected {
+                note: Some(note),
+                packet,
+            }
+        }
+        ScriptEvent::Tick | ScriptEvent::Reset => Dissected {
+            note: None,
+            packet: None,
+        },
     }
 }
 
@@ -160,14 +180,14 @@ fn capture_sent<C: PcapSink>(capture: &mut C, at: Instant, sent: &[Sent]) -> Res
 /// Takes an event in: places its row, captures the frame that arrived, sends what the event brings about, and
 /// captures that.
 fn take_event<C: PcapSink>(
-    host: &mut Host<'_>,
+    host: &mut Host<'_, '_>,
     capture: &mut C,
     report: &mut Report,
     at: Instant,
     event: ScriptEvent<'_>,
     words: EventWords,
 ) -> Result<(), RunError>
-    requires ready { IsReady host.old.dhcp host.old.ip_mtu }
+    requires can { CanHandle host.old }
     requires time { IsCapturable at }
     requires arrival { IsArrival (arrival_of event) }
     ensures ok { OnOk result (TakesEvent at event.entry words
@@ -183,15 +203,28 @@ fn take_event<C: PcapSink>(
     ensures risen { IsErrOf result RunError.Sink → IsRisen (C.faults capture.old) (C.faults capture.new) }
     ensures quiet { (IsErrOf result RunError.Sink → ⊥) → C.faults capture.new ≡ C.faults capture.old }
     ensures later { C.faults capture.old ≤ C.faults capture.new }
-    ensures ready { IsReady host.new.dhcp host.new.ip_mtu }
+    ensures ready { OnOk result (IsReady host.new.dhcp host.new.ip_mtu) }
+    ensures places { OnOk result (place_count host.new.out.neighbors ≡ place_count host.old.out.neighbors) }
+    ensures few { OnOk result (pair_count host.new.out.neighbors ≤ pair_count host.old.out.neighbors + 1) }
 {
-    report.begin(host.alloc, at, kind_of(event), note_for(event), host.lease)?;
+    let Dissected { note, packet } = dissect(event);
+    report.begin(host.out.alloc, at, kind_of(event), note, host.lease())?;
     capture_arrived(capture, at, event)?;
-    let handled = host.handle(at, event, words)?;
+    let handled = host.handle(at, event, packet.as_ref(), words)?;
     let captured = capture_sent(capture, at, handled.sent.as_slice());
     report.fill_last(handled.lease, handled.sent);
     captured?;
     Ok(())
+}
+
+/// A place for the neighbour that each event may tell of.
+fn empty_places(alloc: Global, count: u32) -> Result<Vec<Option<(Ipv4Address, Neighbor)>>, NoMemory>
+    ensures { IfOk result (λ places. length places.items ≡ count) }
+{
+    match vec![in alloc; None; count as usize] {
+        Ok(places) => Ok(places),
+        Err(_) => Err(NoMemory),
+    }
 }
 
 /// Runs a script: answers each event as it is read, reports it and captures the frames. `words` has three
@@ -229,8 +262,10 @@ pub fn run<S: ScriptSource, C: PcapSink>(
         (outside_of S.ScriptSource C.ByteSink source.new capture.new) result }
 {
     let mut reader = EventReader::new(alloc)?;
+    let mut places = empty_places(alloc, max_events)?;
     capture.global_header(PcapLinkType::Ethernet)?;
-    let mut host = Host::new(alloc, config);
+    let neighbors = Neighbors::new(places.as_mut_slice());
+    let mut host = Host::new(alloc, config, neighbors);
     for count in 0..max_events + 1 {
         let Some(head) = reader.next(source, max_events)? else {
             return Ok(());

@@ -1,5 +1,5 @@
 -- The events so far stand, whatever comes of the next one.
-use Rattle.std.proofs.Common.{◌≡◌, ap, sym, subst, ◌∙◌, refl, arith, ⊎_elim, Err}
+use Rattle.std.proofs.Common.{◌≡◌, length, ap, sym, subst, ◌∙◌, refl, arith, ⊎_elim, Err, ◌*◌, ◌+◌, ◌≤◌}
 use Rattle.std.proofs.lemmas.Result.{err_from_is_err_and}
 use Rattle.host_model.specs.Chronicle.{words_at}
 use Rattle.net_host.specs.declared.run_script.RunError.{RunError}
@@ -18,6 +18,13 @@ use Rattle.net_host.proofs.run_script.run.Goals as goal
 pub returns-in_err-reader-clause-leaves : goal.returns-in_err-reader-clause-leaves
 returns-in_err-reader-clause-leaves g c =
     let refused = err_from_is_err_and c.from_residual.result c.from_residual.ensures.1 in
+    rw (refused.1, refused.2)
+    (nothing_run (task_of c.args.config.now c.args.words.now c.args.max_events)
+    (outside_of g.S.ScriptSource g.C.ByteSink c.args.source.now c.args.capture.now) c.args.report.now c.requires.empty)
+
+pub returns-in_err-places-clause-leaves : goal.returns-in_err-places-clause-leaves
+returns-in_err-places-clause-leaves g c =
+    let refused = err_from_is_err_and c.from_residual-in_err-places.result c.from_residual-in_err-places.ensures.1 in
     rw (refused.1, refused.2)
     (nothing_run (task_of c.args.config.now c.args.words.now c.args.max_events)
     (outside_of g.S.ScriptSource g.C.ByteSink c.args.source.now c.args.capture.now) c.args.report.now c.requires.empty)
@@ -45,6 +52,8 @@ loop-count-init g c =
       goes_on = refl;
       limit = tt;
       ready = c.new-host.ensures.ready;
+      places = rw (c.new-host.ensures.neighbors, c.new-neighbors.ensures) (ap length c.as_mut_slice.ensures.value ∙ c.in_ok-places.ensures);
+      few = rw (c.new-host.ensures.neighbors, c.new-neighbors.ensures) (omega arith);
     })
 
 pub returns-in_err-head-clause-leaves : goal.returns-in_err-head-clause-leaves
@@ -107,6 +116,13 @@ returns-in_default-words_at-clause-complete g c =
     (outside_of g.S.ScriptSource g.C.ByteSink c.args.source.now c.args.capture.now)
     (outside_of g.S.ScriptSource g.C.ByteSink c.next.new.source c.loop-count.capture) (Err Words) (returns-in_default-words_at-clause-cause g c)
 
+pub take_event-requires-clause-can : goal.take_event-requires-clause-can
+take_event-requires-clause-can g c =
+    let now = c.loop-count in
+    let gives = given_event c.args.max_events now.reader c.next.new.self (g.S.ScriptSource.left now.source) (g.S.ScriptSource.left c.next.new.source)
+    c.in-Some.head c.event-at.result.0 c.event-at.result.1 (rw c.in-Some.is at c.in_ok-head.ensures.found) c.event-at.ensures.event c.event-at.ensures.time in
+    record { ready = now.invariant.ready; room = omega (arith, now.invariant.few, now.invariant.places, now.invariant.counted, gives.gives.within) }
+
 pub returns-in_err-take_event-clause-leaves : goal.returns-in_err-take_event-clause-leaves
 returns-in_err-take_event-clause-leaves g c =
     let refused = err_from_is_err_and c.from_residual-in_err-take_event.result c.from_residual-in_err-take_event.ensures.1 in
@@ -118,17 +134,19 @@ returns-in_err-take_event-clause-leaves g c =
     let after = outside_of g.S.ScriptSource g.C.ByteSink c.next.new.source c.take_event.new.capture in
     let gives = given_event c.args.max_events now.reader c.next.new.self (g.S.ScriptSource.left now.source) (g.S.ScriptSource.left c.next.new.source)
     c.in-Some.head c.event-at.result.0 c.event-at.result.1 (rw c.in-Some.is at c.in_ok-head.ensures.found) c.event-at.ensures.event c.event-at.ensures.time in
-    let word = c.in-Some-words_at.ensures.found.0 ∙ ap (words_at task.words) (sym now.invariant.counted) in
+    let found = c.in-Some-words_at.ensures.found in
+    let word = found.0 ∙ ap (words_at task.words) (sym now.invariant.counted) in
+    let enough : 3 * (now.reader.events + 1) ≤ length c.args.words.now = omega (arith, found.1, now.invariant.counted) in
     let P : RunError → Type 0 = Leaves task before after c.take_event.new.report in
     rw (refused.1, refused.2)
     (⊎_elim
     (λ (is_sink : error ≡ Sink). subst P (sym is_sink)
     (row_leaves task before here after now.reader c.next.new.self now.host c.take_event.new.host now.report c.take_event.new.report
-    c.event-at.result.0 c.event-at.result.1 c.in-Some-words_at.drawn now.invariant.progress c.new-host.ensures.runs word gives
+    c.event-at.result.0 c.event-at.result.1 c.in-Some-words_at.drawn now.invariant.progress c.new-host.ensures.runs word enough gives
     (c.in_err-take_event.ensures.sink (ap (λ e. Err e) is_sink))))
     (λ (is_memory : error ≡ NoMemory). subst P (sym is_memory)
     (event_leaves task before here after now.reader c.next.new.self now.host c.take_event.new.host now.report c.take_event.new.report
-    c.event-at.result.0 c.event-at.result.1 c.in-Some-words_at.drawn now.invariant.progress c.new-host.ensures.runs word gives
+    c.event-at.result.0 c.event-at.result.1 c.in-Some-words_at.drawn now.invariant.progress c.new-host.ensures.runs word enough gives
     (c.in_err-take_event.ensures.memory (ap (λ e. Err e) is_memory))))
     c.in_err-take_event.ensures.cause)
 
@@ -156,5 +174,7 @@ loop-count-preserved g c =
       within = omega (arith, gives.gives.within, now.invariant.counted);
       goes_on = ap (λ (s : ReaderState). s.is_through) gives.gives.moved;
       limit = rw gives.gives.moved refl;
-      ready = c.take_event.ensures.ready;
+      ready = c.in_ok-take_event.ensures.ready;
+      places = c.in_ok-take_event.ensures.places ∙ now.invariant.places;
+      few = omega (arith, c.in_ok-take_event.ensures.few, now.invariant.few);
     }

@@ -1,5 +1,6 @@
 -- The events so far were read and answered.
 use Rattle.std.proofs.Common.{◌≡◌, ◌≤◌, false, IfSome}
+use Rattle.net_host.specs.Neighbors.{pair_count, place_count}
 use Rattle.net_host.specs.Outside.{outside_of, IsQuiet}
 use Rattle.net_host.specs.Polling.{IsReady}
 use Rattle.net_host.specs.Run.{task_of}
@@ -18,4 +19,6 @@ invariant-loop-count g l =
       goes_on : l.reader.is_through ≡ false;
       limit : IfSome l.reader.max_events (λ max. max ≡ l.max_events);
       ready : IsReady l.host.dhcp l.host.ip_mtu;
+      places : place_count l.host.out.neighbors ≡ l.max_events;
+      few : pair_count l.host.out.neighbors ≤ l.count;
     }
