@@ -1,45 +1,95 @@
 -- Words that name a command.
-use Rattle.std.proofs.Common.{◌≡◌, ℕ, Bool, true, false, not, nat_eq, List, [], ◌∷◌, length, get_or, map, refl, sym, ◌∙◌, subst, arith}
-use Rattle.std.specs.Cmp.Lexicographic.{pointwise}
-use Rattle.std.proofs.lemmas.Slice.Eq.{slice_eq-Decides}
-use Rattle.std.proofs.lemmas.Bool.Decides.{Decides-eqb}
-use Rattle.host_program.specs.declared.command.Command.{Command}
+use Rattle.std.proofs.Common.{◌≡◌, ℕ, ◌-◌, ◌*◌, ◌≤◌, false, List, [], ◌∷◌, length, length-drop, take, drop, map, codes, Option, None, Some, IfSome, option_map, unwrap_or, refl, sym, ◌∙◌, ap, subst, arith}
+use Rattle.std.proofs.lemmas.List.{take_all}
+use Rattle.std.proofs.lemmas.Option.{none-some}
+use Rattle.host_model.specs.Settings.{Settings}
+use Rattle.net_host.specs.declared.config.HostConfigError.{HostConfigError}
+use Rattle.net_host.specs.Config.{refusal_of}
+use Rattle.net_host.proofs.SettingsLemmas.{defaults_accepted}
+use Rattle.net_wire.specs.declared.address.EthernetAddress.{EthernetAddress}
 use Rattle.host_program.specs.declared.command.Command.TheVariants.{Run}
 use Rattle.host_program.specs.declared.command.RunCommand.{RunCommand}
-use Rattle.host_program.specs.Command.{Names, IsTaken, WritesRun}
+use Rattle.host_program.specs.declared.setting.RunSettings.{RunSettings}
+use Rattle.host_program.specs.Command.{WritesRun, NamesRun, IsTaken, NamesOne, IsRunnable, settings_named}
+use Rattle.host_program.specs.Setting.{Sets}
+use Rattle.host_program.proofs.OneSettingLemmas.{sets_one}
+use Rattle.host_program.proofs.SettingWordLemmas.{mtu_in_range}
 
-not_false : (b : Bool) → not b ≡ false → b ≡ true
-not_false true is = refl
-not_false false is = sym is
+behind_three : {X : Type 0} (f : X → List ℕ) (words : List X) (a b c : List ℕ) (behind : List (List ℕ)) → map f words ≡ a ∷ b ∷ c ∷ behind
+    → behind ≡ map f (drop 3 words)
+behind_three f [] a b c behind is = absurd (cc)
+behind_three f (x ∷ []) a b c behind is = absurd (cc)
+behind_three f (x ∷ y ∷ []) a b c behind is = absurd (cc)
+behind_three f (x ∷ y ∷ z ∷ words) a b c behind is = cc
 
--- a word that was compared with a text
-pub same_word : (word text : List ℕ) (differs : Bool) → differs ≡ not (pointwise nat_eq word text) → differs ≡ false → word ≡ text
-same_word word text differs is equal =
-    (slice_eq-Decides Decides-eqb word text (pointwise nat_eq word text) refl).0 (not_false (pointwise nat_eq word text) (sym is ∙ equal))
+behind_one : {X : Type 0} (f : X → List ℕ) (words : List X) (a : List ℕ) (behind : List (List ℕ)) → map f words ≡ a ∷ behind
+    → behind ≡ map f (drop 1 words)
+behind_one f [] a behind is = absurd (cc)
+behind_one f (x ∷ words) a behind is = cc
 
--- the bytes of four words
-pub four_words : {X : Type 0} (f : X → List ℕ) (words : List X) (a b c d : X) (s t u v : List ℕ) → length words ≡ 4
-    → a ≡ get_or words 0 a → b ≡ get_or words 1 b → c ≡ get_or words 2 c → d ≡ get_or words 3 d
-    → s ≡ f a → t ≡ f b → u ≡ f c → v ≡ f d → map f words ≡ s ∷ t ∷ u ∷ v ∷ []
-four_words f [] a b c d s t u v is = absurd (omega (arith, is))
-four_words f (w ∷ []) a b c d s t u v is = absurd (omega (arith, is))
-four_words f (w ∷ x ∷ []) a b c d s t u v is = absurd (omega (arith, is))
-four_words f (w ∷ x ∷ y ∷ []) a b c d s t u v is = absurd (omega (arith, is))
-four_words f (w ∷ x ∷ y ∷ z ∷ []) a b c d s t u v is = λ h i j k l m n o. cc
-four_words f (w ∷ x ∷ y ∷ z ∷ more ∷ words) a b c d s t u v is = absurd (omega (arith, is))
+behind : {X : Type 0} (words : List X) (n : ℕ) → drop n words ≡ take (length words - n) (drop n words)
+behind words n = sym (take_all (length words - n) (drop n words) (omega (arith, length-drop n words)))
 
-names_nothing : (words : List (List ℕ)) (name a b c : List ℕ) → words ≡ name ∷ a ∷ b ∷ c ∷ [] → ((run : RunCommand) → WritesRun a b c run → ⊥)
-    → (command : Command) → Names words command → ⊥
-names_nothing words name a b c are none (Run run) named =
-    let first : named.hardware_word ≡ a = cc in
-    let second : named.seed_word ≡ b = cc in
-    let third : named.max_word ≡ c = cc in
-    let A : List ℕ → Type 0 = λ word. WritesRun word named.seed_word named.max_word run in
-    let B : List ℕ → Type 0 = λ word. WritesRun a word named.max_word run in
-    let C : List ℕ → Type 0 = λ word. WritesRun a b word run in
-    none run (subst C third (subst B second (subst A first named.write)))
+-- where the words behind the first three are no settings
+pub unset : {X : Type 0} (f : X → List ℕ) (words : List X) → ((said : RunSettings) → Sets (map f (take (length words - 3) (drop 3 words))) said → ⊥)
+    → (run : RunCommand) → WritesRun (map f words) run → ⊥
+unset f words none run writes =
+    let are = behind_three f words writes.hardware_word writes.seed_word writes.max_word writes.setting_words writes.are in
+    none run.settings (subst (λ l. Sets (map f l) run.settings) (behind words 3) (subst (λ l. Sets l run.settings) are writes.settings))
 
--- where the three words behind the first one write no run
-pub not_taken : (words : List (List ℕ)) (name a b c : List ℕ) → words ≡ name ∷ a ∷ b ∷ c ∷ [] → ((run : RunCommand) → WritesRun a b c run → ⊥)
-    → IsTaken words → ⊥
-not_taken words name a b c are none taken = names_nothing words name a b c are none taken.0 taken.1
+-- where the words behind the first one write no run
+pub unwritten : {X : Type 0} (f : X → List ℕ) (words : List X)
+    → ((run : RunCommand) → WritesRun (map f (take (length words - 1) (drop 1 words))) run → ⊥) → IsTaken (map f words) → ⊥
+unwritten f words none (Run run, named) =
+    let are = behind_one f words (codes "run") named.behind named.are in
+    none run (subst (λ l. WritesRun (map f l) run) (behind words 1) (subst (λ l. WritesRun l run) are named.write))
+
+abbrev address_made : List ℕ → EthernetAddress
+address_made bytes = record { 0 = bytes }
+
+abbrev run_made : List ℕ → ℕ → ℕ → RunSettings → RunCommand
+run_made bytes seed count settings = record { hardware = address_made bytes; seed = seed; max_events = count; settings = settings }
+
+same_fields : (a w : List ℕ) (b x c y : ℕ) (d z : RunSettings) → a ≡ w → b ≡ x → c ≡ y → d ≡ z → run_made a b c d ≡ run_made w x y z
+same_fields a w b x c y d z first second third fourth = rw (first, second, third, fourth) refl
+
+writes_one : (words : List (List ℕ)) (one other : RunCommand) → WritesRun words one → WritesRun words other → one ≡ other
+writes_one words one other first second =
+    let hardware : one.hardware.0 ≡ other.hardware.0 = cc (first.are, second.are, first.hardware.bytes, second.hardware.bytes) in
+    let seed : one.seed ≡ other.seed = cc (first.are, second.are, first.seed.writes.value, second.seed.writes.value) in
+    let count : one.max_events ≡ other.max_events = cc (first.are, second.are, first.max.writes.value, second.max.writes.value) in
+    let setting_words : second.setting_words ≡ first.setting_words = cc (first.are, second.are) in
+    let settings = sets_one first.setting_words one.settings other.settings first.settings
+    (subst (λ l. Sets l other.settings) setting_words second.settings) in
+    same_fields one.hardware.0 other.hardware.0 one.seed other.seed one.max_events other.max_events one.settings other.settings
+    hardware seed count settings
+
+-- words name one command at most
+pub names_one : NamesOne
+names_one words (Run one) (Run other) first second =
+    let behind_run : second.behind ≡ first.behind = cc (first.are, second.are) in
+    ap Run (writes_one first.behind one other first.write (subst (λ l. WritesRun l other) behind_run second.write))
+
+-- a run that words name relies on nothing more
+pub runnable : {words : List (List ℕ)} {run : RunCommand} → NamesRun words run → IsRunnable run
+runnable {words} {run} named = record {
+  individual = named.write.hardware.individual;
+  mtu = mtu_in_range named.write.setting_words run.settings named.write.settings;
+  some = named.write.max.some;
+  limit = named.write.max.limit;
+}
+
+mtu_or_default : (value : Option ℕ) → IfSome value (λ bytes. (576 ≤ bytes) × (bytes ≤ 1500))
+    → (576 ≤ unwrap_or value 1500) × (unwrap_or value 1500 ≤ 1500)
+mtu_or_default None range = (omega arith, omega arith)
+mtu_or_default (Some bytes) range = range
+
+-- its settings are refused by no host
+pub accepted : (run : RunCommand) (settings : Settings) (error : HostConfigError) → IsRunnable run → settings ≡ settings_named run
+    → Some error ≡ refusal_of settings → ⊥
+accepted run settings error may is refused =
+    let mtu = mtu_or_default run.settings.ip_mtu may.mtu in
+    let none : refusal_of (settings_named run) ≡ None =
+    defaults_accepted run.hardware (unwrap_or run.settings.ip_mtu 1500) (option_map (λ secs. secs * 1000000) run.settings.max_lease_secs)
+    (unwrap_or run.settings.ignore_naks false) may.individual mtu.0 mtu.1 in
+    none-some error (sym (refused ∙ ap refusal_of is ∙ none))

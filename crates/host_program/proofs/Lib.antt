@@ -1,7 +1,11 @@
 pub mod CommandLemmas
 pub mod DigitLemmas
 pub mod EndingLemmas
+pub mod OneSettingLemmas
 pub mod RanLemmas
+pub mod SettingLemmas
+pub mod SettingWordLemmas
 pub mod StatusLemmas
 pub mod TextLemmas
+pub mod WalkLemmas
 pub mod WordLemmas

@@ -21,10 +21,14 @@ status_after ending (Ok _) = status_of ending
 status_after ending (Err sink.Fault) = 6
 status_after ending (Err sink.NoMemory) = 7
 
+-- how to use the program: a line for each command
+abbrev pub usage_text : List ℕ
+usage_text = codes "usage: run HW SEED MAX [mtu=N] [lease=N] [naks=ignore|obey]\n"
+
 -- the last line: for refused words, how to use the program
 abbrev pub last_line : Ending → List ℕ
 last_line Done = codes "done\n"
-last_line Refused = codes "usage: run HW SEED MAX\n"
+last_line Refused = usage_text
 last_line (Script offset) = codes "script error at " ++ decimal offset ++ codes "\n"
 last_line Limit = codes "event limit reached\n"
 last_line Read = codes "read fault\n"

@@ -16,7 +16,7 @@ use Rattle.net_host.specs.declared.report.Sent.{Sent}
 use Rattle.net_host.specs.declared.report.Kind.{Kind}
 use Rattle.net_host.specs.declared.report.Kind.TheVariants.{Tick, Reset, Frame}
 use Rattle.net_host.specs.declared.report.Mark.{Mark}
-use Rattle.net_host.specs.declared.report.Mark.TheVariants.{Dhcp}
+use Rattle.net_host.specs.declared.report.Mark.TheVariants.{Dhcp, ArpReply, ArpRequest}
 use Rattle.phy_layers.specs.PcapBytes.{epoch_micros}
 use Rattle.host_program.specs.Text.{six_digits}
 
@@ -84,6 +84,8 @@ event_line number row =
 
 abbrev pub mark_text : Mark → List ℕ
 mark_text Dhcp = codes "dhcp"
+mark_text ArpReply = codes "arp-reply"
+mark_text ArpRequest = codes "arp-request"
 
 -- the line of a sent frame: what it is for, and its length in bytes
 abbrev pub sent_line : Sent → List ℕ

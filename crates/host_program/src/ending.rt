@@ -6,6 +6,9 @@ ghost use Rattle.host_program.specs.Ending.{status_of, status_after, last_line};
 use crate::text::{put, put_number};
 use phy_layers::{ByteSink, SinkError};
 
+/// How to use the program: a line for each command.
+const USAGE: &[u8] = b"usage: run HW SEED MAX [mtu=N] [lease=N] [naks=ignore|obey]\n";
+
 /// How a command ended, but for faults of the output.
 #[derive(Clone, Copy, Debug, PartialEq, Eq)]
 pub enum Ending {
@@ -59,7 +62,7 @@ pub fn put_last_line<O: ByteSink>(out: &mut O, answer: &mut Result<(), SinkError
 {
     match ending {
         Ending::Done => put(out, answer, b"done\n"),
-        Ending::Refused => put(out, answer, b"usage: run HW SEED MAX\n"),
+        Ending::Refused => put(out, answer, USAGE),
         Ending::Script(offset) => {
             put(out, answer, b"script error at ");
             put_number(out, answer, offset);

@@ -1,8 +1,7 @@
 //! The program as a function: words and a script in; a capture, a report and its text out.
-ghost use Rattle.std.specs.Prelude.{◌≡◌, [], ◌++◌, map, string_bytes};
+ghost use Rattle.std.specs.Prelude.{◌≡◌, ◌*◌, [], ◌++◌, map, string_bytes, option_map};
 ghost use Rattle.wire_base.specs.Causes.{IsRisen};
 ghost use Rattle.phy_layers.specs.Sink.{Took};
-ghost use Rattle.net_host.specs.Config.{HasGroupAddress};
 ghost use Rattle.net_host.specs.Outside.{outside_of};
 ghost use Rattle.host_program.specs.Command.{IsTaken, IsRunnable, settings_named};
 ghost use Rattle.host_program.specs.Ending.{last_line};
@@ -16,6 +15,7 @@ use crate::report_text::report_text;
 use crate::text::flush;
 use dhcp_client::RetryConfig;
 use net_host::{HostConfig, HostValues, Report, RunError, ScriptSource, run};
+use net_wire::Duration;
 use phy_layers::{ByteSink, PcapSink, SinkError};
 use std::alloc::Global;
 
@@ -71,6 +71,7 @@ pub fn host_main<S: ScriptSource, C: PcapSink, O: ByteSink>(
 }
 
 /// Does what the words ask for.
+#[tactic(auto, using(crate::proofs::CommandLemmas::runnable))]
 fn obey<S: ScriptSource, C: PcapSink>(
     alloc: Global,
     args: &[String],
@@ -133,23 +134,34 @@ fn run_script<S: ScriptSource, C: PcapSink>(
 
 /// The configuration of the host of a run.
 fn config_of(command: &RunCommand) -> HostConfig<'static>
-    requires { HasGroupAddress command.now.hardware → ⊥ }
+    requires { IsRunnable command.now }
     ensures { result ≡ settings_named command.now }
 {
+    let settings = command.settings;
     let values = HostValues {
         hardware: command.hardware,
-        ip_mtu: 1500,
+        ip_mtu: settings.ip_mtu.unwrap_or(1500),
         retry: RetryConfig::default(),
         server_port: 67,
         client_port: 68,
-        max_lease: None,
-        ignore_naks: false,
+        max_lease: longest_lease(settings.max_lease_secs),
+        ignore_naks: settings.ignore_naks.unwrap_or(false),
         parameters: &[1, 3, 6],
         options: &[],
     };
     match HostConfig::new(values) {
         Ok(config) => config,
         Err(_) => unreachable!(),
+    }
+}
+
+/// The span of so many seconds.
+fn longest_lease(secs: Option<u32>) -> Option<Duration>
+    ensures { result ≡ option_map (λ number. number * 1000000) secs }
+{
+    match secs {
+        None => None,
+        Some(number) => Some(Duration::from_secs(u64::from(number))),
     }
 }
 

@@ -10,9 +10,11 @@ pub mod host_main;
 mod lazy_file;
 mod output;
 pub mod report_text;
+pub mod setting;
 #[cfg(test)]
 mod tests;
 pub mod text;
+pub mod word;
 
 use capture_file::CaptureFile;
 use ending::Ending;

@@ -225,5 +225,60 @@ fn mark_word(mark: Mark) -> &'static [u8]
 {
     match mark {
         Mark::Dhcp => b"dhcp",
+        Mark::ArpReply => b"arp-reply",
+        Mark::ArpRequest => b"arp-request",
+    }
+}
+
+#[cfg(test)]
+mod report_text_tests {
+    use super::*;
+    use phy_layers::{FrameBytes, SureSink};
+    use std::test::Fail;
+
+    fn cidr(a: u8, b: u8, c: u8, d: u8, prefix_len: u8) -> Ipv4Cidr {
+        let address = Ipv4Address([a, b, c, d]);
+        Ipv4Cidr {
+            address,
+            prefix_len,
+        }
+    }
+
+    #[test]
+    fn leases_print_as_address_and_prefix(rt: HostRuntime) -> Result<(), Fail> {
+        let cases: [(Option<Ipv4Cidr>, &[u8]); 5] = [
+            (None, b"none"),
+            (Some(cidr(192, 168, 1, 42, 24)), b"192.168.1.42/24"),
+            (Some(cidr(0, 0, 0, 0, 0)), b"0.0.0.0/0"),
+            (Some(cidr(255, 255, 255, 255, 32)), b"255.255.255.255/32"),
+            (Some(cidr(10, 0, 9, 100, 8)), b"10.0.9.100/8"),
+        ];
+        for (lease, text) in cases {
+            let mut out = SureSink::new(rt.alloc());
+            let mut answer = Ok(());
+            put_lease(&mut out, &mut answer, lease);
+            assert!(rt; answer.is_ok());
+            assert_eq!(rt; out.bytes(), text);
+        }
+        Ok(())
+    }
+
+    #[test]
+    fn sent_frames_print_by_their_mark(rt: HostRuntime) -> Result<(), Fail> {
+        let alloc = rt.alloc();
+        let cases: [(Mark, &[u8], &[u8]); 3] = [
+            (Mark::Dhcp, b"\xff\xff\xff", b"  sent dhcp 3\n"),
+            (Mark::ArpReply, b"0123456789ab", b"  sent arp-reply 12\n"),
+            (Mark::ArpRequest, b"", b"  sent arp-request 0\n"),
+        ];
+        for (mark, bytes, line) in cases {
+            let frame = FrameBytes::from_slice(alloc, bytes)?;
+            let mut out = SureSink::new(alloc);
+            let mut answer = Ok(());
+            put_frame(&mut out, &mut answer, &Sent { mark, frame });
+            assert!(rt; answer.is_ok());
+            assert_eq!(rt; out.bytes(), line);
+        }
+        Ok(())
     }
 }

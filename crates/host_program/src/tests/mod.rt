@@ -1,7 +1,10 @@
 //! Whole runs, against bytes and texts from outside.
 mod frames;
+mod lives;
 mod outside;
 mod plain;
+mod replies;
+mod words;
 
 use crate::host_main::host_main;
 use net_host::{HostConfig, HostValues, Report, RunError, SureSource, run};
@@ -23,17 +26,26 @@ struct Ran {
 }
 
 fn run_program(alloc: Global, words: &[&str], script: &[u8]) -> Result<Ran, AllocError> {
-    let mut args = Vec::new(alloc);
+    let args = strings_of(alloc, words)?;
+    run_args(alloc, args.as_slice(), script)
+}
+
+fn strings_of(alloc: Global, words: &[&str]) -> Result<Vec<String>, AllocError> {
+    let mut strings = Vec::new(alloc);
     for word in words {
-        args.push(String::from_str(alloc, word)?)?;
+        strings.push(String::from_str(alloc, word)?)?;
     }
+    Ok(strings)
+}
+
+fn run_args(alloc: Global, args: &[String], script: &[u8]) -> Result<Ran, AllocError> {
     let mut source = SureSource::new(Vec::from_slice(alloc, script)?);
     let mut capture = SureSink::new(alloc);
     let mut out = SureSink::new(alloc);
     let mut report = Report::new(alloc);
     let status = host_main(
         alloc,
-        args.as_slice(),
+        args,
         &mut source,
         &mut capture,
         &mut out,
@@ -74,6 +86,35 @@ fn ticks(alloc: Global, times: &[u64]) -> Result<Vec<u8>, AllocError> {
 /// What libpcap's files begin with, little-endian: link type Ethernet.
 const FILE_HEADER: &[u8] =
     b"\xd4\xc3\xb2\xa1\x02\x00\x04\x00\x00\x00\x00\x00\x00\x00\x00\x00\x00\x00\x04\x00\x01\x00\x00\x00";
+
+/// The report of a run over ticks.
+fn report_of_ticks(alloc: Global, times: &[u64]) -> Result<Report, AllocError> {
+    let args = strings_of(alloc, &["run", "020202020202", "1", "9"])?;
+    let mut source = SureSource::new(ticks(alloc, times)?);
+    let mut capture = SureSink::new(alloc);
+    let mut out = SureSink::new(alloc);
+    let mut report = Report::new(alloc);
+    host_main(
+        alloc,
+        args.as_slice(),
+        &mut source,
+        &mut capture,
+        &mut out,
+        &mut report,
+    );
+    Ok(report)
+}
+
+#[test]
+fn reports_compare_by_their_rows(rt: HostRuntime) -> Result<(), Fail> {
+    let alloc = rt.alloc();
+    let one = report_of_ticks(alloc, &[0, 10_000_000])?;
+    let same = report_of_ticks(alloc, &[0, 10_000_000])?;
+    let other = report_of_ticks(alloc, &[0, 9_999_999])?;
+    assert!(rt; one == same);
+    assert!(rt; one != other);
+    Ok(())
+}
 
 #[test]
 fn an_empty_script_is_done(rt: HostRuntime) -> Result<(), Fail> {
@@ -176,37 +217,6 @@ fn scripts_that_stop_a_run(rt: HostRuntime) -> Result<(), Fail> {
         assert!(rt; ran.printed.as_slice().ends_with(line));
         assert_eq!(rt; ran.captured.len(), captured);
     }
-    Ok(())
-}
-
-#[test]
-fn words_that_are_refused(rt: HostRuntime) -> Result<(), Fail> {
-    let cases: [&[&str]; 8] = [
-        &[],
-        &["run", "010202020202", "1", "10"],
-        &["run", "0202020202", "1", "10"],
-        &["run", "02020202020g", "1", "10"],
-        &["run", "020202020202", "4294967296", "10"],
-        &["run", "020202020202", "+1", "10"],
-        &["run", "020202020202", "1", "0"],
-        &["run", "020202020202", "1", "10", "mtu=575"],
-    ];
-    for words in cases {
-        let ran = run_program(rt.alloc(), words, b"\x02")?;
-        assert_eq!(rt; ran.status, 1);
-        assert_eq!(rt;
-            ran.printed.as_slice(),
-            b"usage: run HW SEED MAX\n".as_slice()
-        );
-        assert_eq!(rt; ran.captured.len(), 0);
-        assert_eq!(rt; ran.rows, 0);
-    }
-    let ran = run_program(
-        rt.alloc(),
-        &["run", "02ABcdef0202", "0000000001", "00010"],
-        b"",
-    )?;
-    assert_eq!(rt; ran.status, 0, "either case and leading zeros");
     Ok(())
 }
 

@@ -1,7 +1,7 @@
 use Rattle.std.proofs.Common.{◌<◌, arith, refl}
 use Rattle.std.proofs.lemmas.Int.Digits.{digits_more, digits_value_more}
 use Rattle.host_program.proofs.DigitLemmas.{front_small, next_fits, digit_at}
-use Rattle.host_program.proofs.command.number_of.Goals as goal
+use Rattle.host_program.proofs.word.number_of.Goals as goal
 
 pub returns-in_err-digit-clause-refuses : goal.returns-in_err-digit-clause-refuses
 returns-in_err-digit-clause-refuses c = rw c.from_residual.ensures
