@@ -2,6 +2,7 @@
 //! calls that it makes, with no proof file.
 #![tactic(auto)]
 
+pub mod arriving;
 pub mod cuts;
 pub mod dissection;
 pub mod headers;

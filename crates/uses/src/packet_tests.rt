@@ -1,7 +1,7 @@
 //! Packets from outside, written, read and printed.
-use crate::{ipsec, layers, printing};
+use crate::{arriving, ipsec, layers, printing};
 use ipsec_wire::{ah, esp};
-use net_wire::{Instant, IpProtocol};
+use net_wire::{EthernetAddress, Instant, IpProtocol, Ipv4Address};
 use phy_layers::{FaultInjector, FuzzInjector, Fuzzer, Medium, MemoryDevice, Tracer, TracerPacket};
 use std::test::Fail;
 
@@ -44,6 +44,41 @@ impl Fuzzer for TurnsBits {
         for byte in packet_data.iter_mut() {
             *byte ^= 1;
         }
+    }
+}
+
+/// Three bytes from port 67 of 192.168.1.1 to port 68 of all hosts, with sums worked out by hand.
+const REPLY: [u8; 45] = [
+    2, 2, 2, 2, 2, 2, 4, 4, 4, 4, 4, 4, 0x08, 0x00, // Ethernet
+    0x45, 0x00, 0x00, 0x1f, 0x00, 0x00, 0x00, 0x00, 0x40, 0x11, 0xb9, 0x25, // IPv4
+    0xc0, 0xa8, 0x01, 0x01, 0xff, 0xff, 0xff, 0xff, //
+    0x00, 0x43, 0x00, 0x44, 0x00, 0x0b, 0xc6, 0xeb, 0xaa, 0xbb, 0xcc, // UDP
+];
+
+/// 192.168.1.1 asks all stations for 192.168.1.42.
+const WHO_HAS: [u8; 42] = [
+    0xff, 0xff, 0xff, 0xff, 0xff, 0xff, 4, 4, 4, 4, 4, 4, 0x08, 0x06, // Ethernet
+    0x00, 0x01, 0x08, 0x00, 0x06, 0x04, 0x00, 0x01, // Ethernet, IPv4, 6, 4, request
+    4, 4, 4, 4, 4, 4, 192, 168, 1, 1, // sender
+    0, 0, 0, 0, 0, 0, 192, 168, 1, 42, // target
+];
+
+/// 192.168.1.42 is at 02:02:02:02:02:02.
+const IS_AT: [u8; 42] = [
+    4, 4, 4, 4, 4, 4, 2, 2, 2, 2, 2, 2, 0x08, 0x06, // Ethernet
+    0x00, 0x01, 0x08, 0x00, 0x06, 0x04, 0x00, 0x02, // Ethernet, IPv4, 6, 4, reply
+    2, 2, 2, 2, 2, 2, 192, 168, 1, 42, // sender
+    4, 4, 4, 4, 4, 4, 192, 168, 1, 1, // target
+];
+
+#[test]
+fn a_station_answers_for_its_address(rt: HostRuntime) {
+    let station = EthernetAddress([2; 6]);
+    assert!(rt; arriving::is_dhcp_reply(&REPLY, station));
+    assert!(rt; !arriving::is_dhcp_reply(&WHO_HAS, station));
+    for (last, want) in [(42, Some(IS_AT)), (43, None)] {
+        let address = Ipv4Address([192, 168, 1, last]);
+        assert_eq!(rt; arriving::arp_answer(&WHO_HAS, station, address), want);
     }
 }
 

@@ -1,7 +1,10 @@
 //! `dns_client`: a query is started, and ended.
-ghost use Rattle.std.specs.Prelude.{◌≡◌, ◌≢◌, ℕ, IfOk, OnErr, IsSome, IsFalse, is_some, slice_get};
+ghost use Rattle.std.specs.Prelude.{◌≡◌, ◌≢◌, ℕ, Some, IfOk, IfSome, OnErr, IsSome, IsFalse, is_some, slice_get};
+ghost use Rattle.net_wire.specs.declared.dns.dns_type.DnsType.TheVariants.{A};
 ghost use Rattle.dns_client.specs.Client.{client_of};
+ghost use Rattle.dns_client.specs.Query.{new_query, query_result, request_with};
 ghost use Rattle.dns_client.specs.Slots.{first_free, slot_at};
+ghost use Rattle.dns_client.specs.TextName.{labels_of_text, mdns_of, wire_name};
 
 use arrayvec::ArrayVec;
 use dns_client::{GetQueryResultError, QueryHandle, Socket, StartQueryError};
@@ -17,7 +20,9 @@ pub fn ask(
     port_word: u32,
 ) -> Result<QueryHandle, StartQueryError>
     ensures place { IfOk result (λ handle. handle.0 ≡ first_free (client_of socket.old).slots) }
-    ensures live { IfOk result (λ handle. IsSome (slot_at (client_of socket.new).slots handle)) }
+    ensures query { IfOk result (λ handle. slot_at (client_of socket.new).slots handle
+        ≡ Some (new_query (request_with (wire_name name.now) A (mdns_of (labels_of_text name.now))
+        id_word port_word))) }
     ensures others { IfOk result (λ handle. (k : ℕ) → k ≢ handle.0
         → slice_get (client_of socket.new).slots k ≡ slice_get (client_of socket.old).slots k) }
     ensures err { OnErr result (client_of socket.new ≡ client_of socket.old) }
@@ -31,6 +36,7 @@ pub fn finish(
     handle: QueryHandle,
 ) -> Result<ArrayVec<IpAddress, 4>, GetQueryResultError>
     requires { IsSome (slot_at (client_of socket.old).slots handle) }
+    ensures value { IfSome (slot_at (client_of socket.old).slots handle) (λ query. result ≡ query_result query) }
     ensures freed { IsFalse (is_some (slot_at (client_of socket.new).slots handle)) }
 {
     let result = socket.get_query_result(handle);
