@@ -19,7 +19,8 @@ ip_read_text (ip.TheVariants.Len error) = len_text error
 ip_read_text (ip.TheVariants.Content error) = ip_headers_text error
 
 abbrev pub ip_auth_read_text : ip_auth.HeaderReadError → List ℕ
-ip_auth_read_text (ip_auth.TheVariants.Io fault) = codes "IP Authentication Header IO Error: " ++ io_text fault
+ip_auth_read_text (ip_auth.TheVariants.Io fault) =
+    codes "IP Authentication Header IO Error: " ++ io_text fault
 ip_auth_read_text (ip_auth.TheVariants.Content error) = ip_auth_text error
 
 abbrev pub ipv4_read_text : ipv4.HeaderReadError → List ℕ
@@ -31,11 +32,13 @@ ipv6_read_text (ipv6.TheVariants.Io fault) = codes "IPv6 Header IO Error: " ++ i
 ipv6_read_text (ipv6.TheVariants.Content error) = ipv6_text error
 
 abbrev pub ipv6_exts_read_text : ipv6_exts.HeaderReadError → List ℕ
-ipv6_exts_read_text (ipv6_exts.TheVariants.Io fault) = codes "IPv6 Extension Header IO Error: " ++ io_text fault
+ipv6_exts_read_text (ipv6_exts.TheVariants.Io fault) =
+    codes "IPv6 Extension Header IO Error: " ++ io_text fault
 ipv6_exts_read_text (ipv6_exts.TheVariants.Content error) = ipv6_exts_text error
 
 abbrev pub linux_sll_read_text : linux_sll.HeaderReadError → List ℕ
-linux_sll_read_text (linux_sll.TheVariants.Io fault) = codes "Linux Cooked Capture v1 (SLL) Header IO Error: " ++ io_text fault
+linux_sll_read_text (linux_sll.TheVariants.Io fault) =
+    codes "Linux Cooked Capture v1 (SLL) Header IO Error: " ++ io_text fault
 linux_sll_read_text (linux_sll.TheVariants.Content error) = linux_sll_text error
 
 abbrev pub macsec_read_text : macsec.HeaderReadError → List ℕ

@@ -33,8 +33,10 @@ pub enum FromSliceError {
 impl FromSliceError {
     /// What `Len` holds.
     pub fn len(&self) -> Option<&LenError>
-        ensures found { (error : _) → self.now ≡ FromSliceError.Len error → option_copied result ≡ Some error }
-        ensures cause { (error : _) → option_copied result ≡ Some error → self.now ≡ FromSliceError.Len error }
+        ensures found { (error : _) → self.now ≡ FromSliceError.Len error
+            → option_copied result ≡ Some error }
+        ensures cause { (error : _) → option_copied result ≡ Some error
+            → self.now ≡ FromSliceError.Len error }
     {
         match self {
             FromSliceError::Len(error) => Some(error),
@@ -44,8 +46,10 @@ impl FromSliceError {
 
     /// What `LinuxSll` holds.
     pub fn linux_sll(&self) -> Option<&linux_sll::HeaderError>
-        ensures found { (error : _) → self.now ≡ FromSliceError.LinuxSll error → option_copied result ≡ Some error }
-        ensures cause { (error : _) → option_copied result ≡ Some error → self.now ≡ FromSliceError.LinuxSll error }
+        ensures found { (error : _) → self.now ≡ FromSliceError.LinuxSll error
+            → option_copied result ≡ Some error }
+        ensures cause { (error : _) → option_copied result ≡ Some error
+            → self.now ≡ FromSliceError.LinuxSll error }
     {
         match self {
             FromSliceError::LinuxSll(error) => Some(error),
@@ -55,8 +59,10 @@ impl FromSliceError {
 
     /// What `Macsec` holds.
     pub fn macsec(&self) -> Option<&macsec::HeaderError>
-        ensures found { (error : _) → self.now ≡ FromSliceError.Macsec error → option_copied result ≡ Some error }
-        ensures cause { (error : _) → option_copied result ≡ Some error → self.now ≡ FromSliceError.Macsec error }
+        ensures found { (error : _) → self.now ≡ FromSliceError.Macsec error
+            → option_copied result ≡ Some error }
+        ensures cause { (error : _) → option_copied result ≡ Some error
+            → self.now ≡ FromSliceError.Macsec error }
     {
         match self {
             FromSliceError::Macsec(error) => Some(error),
@@ -77,8 +83,10 @@ impl FromSliceError {
 
     /// What `IpAuth` holds.
     pub fn ip_auth(&self) -> Option<&ip_auth::HeaderError>
-        ensures found { (error : _) → self.now ≡ FromSliceError.IpAuth error → option_copied result ≡ Some error }
-        ensures cause { (error : _) → option_copied result ≡ Some error → self.now ≡ FromSliceError.IpAuth error }
+        ensures found { (error : _) → self.now ≡ FromSliceError.IpAuth error
+            → option_copied result ≡ Some error }
+        ensures cause { (error : _) → option_copied result ≡ Some error
+            → self.now ≡ FromSliceError.IpAuth error }
     {
         match self {
             FromSliceError::IpAuth(error) => Some(error),
@@ -88,8 +96,10 @@ impl FromSliceError {
 
     /// What `Ipv4` holds.
     pub fn ipv4(&self) -> Option<&ipv4::HeaderError>
-        ensures found { (error : _) → self.now ≡ FromSliceError.Ipv4 error → option_copied result ≡ Some error }
-        ensures cause { (error : _) → option_copied result ≡ Some error → self.now ≡ FromSliceError.Ipv4 error }
+        ensures found { (error : _) → self.now ≡ FromSliceError.Ipv4 error
+            → option_copied result ≡ Some error }
+        ensures cause { (error : _) → option_copied result ≡ Some error
+            → self.now ≡ FromSliceError.Ipv4 error }
     {
         match self {
             FromSliceError::Ipv4(error) => Some(error),
@@ -99,8 +109,10 @@ impl FromSliceError {
 
     /// What `Ipv6` holds.
     pub fn ipv6(&self) -> Option<&ipv6::HeaderError>
-        ensures found { (error : _) → self.now ≡ FromSliceError.Ipv6 error → option_copied result ≡ Some error }
-        ensures cause { (error : _) → option_copied result ≡ Some error → self.now ≡ FromSliceError.Ipv6 error }
+        ensures found { (error : _) → self.now ≡ FromSliceError.Ipv6 error
+            → option_copied result ≡ Some error }
+        ensures cause { (error : _) → option_copied result ≡ Some error
+            → self.now ≡ FromSliceError.Ipv6 error }
     {
         match self {
             FromSliceError::Ipv6(error) => Some(error),
@@ -110,8 +122,10 @@ impl FromSliceError {
 
     /// What `Ipv6Exts` holds.
     pub fn ipv6_exts(&self) -> Option<&ipv6_exts::HeaderError>
-        ensures found { (error : _) → self.now ≡ FromSliceError.Ipv6Exts error → option_copied result ≡ Some error }
-        ensures cause { (error : _) → option_copied result ≡ Some error → self.now ≡ FromSliceError.Ipv6Exts error }
+        ensures found { (error : _) → self.now ≡ FromSliceError.Ipv6Exts error
+            → option_copied result ≡ Some error }
+        ensures cause { (error : _) → option_copied result ≡ Some error
+            → self.now ≡ FromSliceError.Ipv6Exts error }
     {
         match self {
             FromSliceError::Ipv6Exts(error) => Some(error),
@@ -121,8 +135,10 @@ impl FromSliceError {
 
     /// What `Tcp` holds.
     pub fn tcp(&self) -> Option<&tcp::HeaderError>
-        ensures found { (error : _) → self.now ≡ FromSliceError.Tcp error → option_copied result ≡ Some error }
-        ensures cause { (error : _) → option_copied result ≡ Some error → self.now ≡ FromSliceError.Tcp error }
+        ensures found { (error : _) → self.now ≡ FromSliceError.Tcp error
+            → option_copied result ≡ Some error }
+        ensures cause { (error : _) → option_copied result ≡ Some error
+            → self.now ≡ FromSliceError.Tcp error }
     {
         match self {
             FromSliceError::Tcp(error) => Some(error),

@@ -58,8 +58,10 @@ impl ReadError {
 
     /// What `LinuxSll` holds.
     pub fn linux_sll(&self) -> Option<&linux_sll::HeaderError>
-        ensures found { (error : _) → self.now ≡ ReadError.LinuxSll error → option_copied result ≡ Some error }
-        ensures cause { (error : _) → option_copied result ≡ Some error → self.now ≡ ReadError.LinuxSll error }
+        ensures found { (error : _) → self.now ≡ ReadError.LinuxSll error
+            → option_copied result ≡ Some error }
+        ensures cause { (error : _) → option_copied result ≡ Some error
+            → self.now ≡ ReadError.LinuxSll error }
     {
         match self {
             ReadError::LinuxSll(error) => Some(error),
@@ -124,8 +126,10 @@ impl ReadError {
 
     /// What `Ipv6Exts` holds.
     pub fn ipv6_exts(&self) -> Option<&ipv6_exts::HeaderError>
-        ensures found { (error : _) → self.now ≡ ReadError.Ipv6Exts error → option_copied result ≡ Some error }
-        ensures cause { (error : _) → option_copied result ≡ Some error → self.now ≡ ReadError.Ipv6Exts error }
+        ensures found { (error : _) → self.now ≡ ReadError.Ipv6Exts error
+            → option_copied result ≡ Some error }
+        ensures cause { (error : _) → option_copied result ≡ Some error
+            → self.now ≡ ReadError.Ipv6Exts error }
     {
         match self {
             ReadError::Ipv6Exts(error) => Some(error),

@@ -22,7 +22,11 @@ is_fragmented bytes before (place ∷ more) =
 
 -- the refusals of a reader of extension headers
 abbrev pub chain_errors : ExtensionErrors HeaderSliceError
-chain_errors = record { wrong_len = Len; behind_ipv4 = λ error. Content (IpAuth error); behind_ipv6 = Content }
+chain_errors = record {
+  wrong_len = Len;
+  behind_ipv4 = λ error. Content (IpAuth error);
+  behind_ipv6 = Content;
+}
 
 -- the refusal of a part that begins at a place
 abbrev pub placed_at : ℕ → HeaderSliceError → HeaderSliceError
@@ -30,8 +34,10 @@ placed_at start (Len error) = Len (record error { layer_start_offset = start })
 placed_at start (Content error) = Content error
 
 -- a reader walked along the extension headers from a number on: it stands at a place, before a number
-pub record IsChainEnd (bytes : List ℕ) (number : ℕ) (at next : ℕ) (fragmented : Bool) (stop : Option (Stop HeaderSliceError)) (places : List Place) : Type 0 where
-  pub layout : IsLayoutFrom (extension_grammar chain_errors) bytes (turn_to 0 false (first_extension_kind number)) 0 (length bytes) places stop
+pub record IsChainEnd (bytes : List ℕ) (number : ℕ) (at next : ℕ) (fragmented : Bool)
+    (stop : Option (Stop HeaderSliceError)) (places : List Place) : Type 0 where
+  pub layout : IsLayoutFrom (extension_grammar chain_errors) bytes
+      (turn_to 0 false (first_extension_kind number)) 0 (length bytes) places stop
   pub at_end : at ≡ end_of_headers 0 places
   pub within : at ≤ length bytes
   pub next_is : next ≡ number_behind bytes number places

@@ -35,7 +35,8 @@ pub record IsChainOf (bytes : List ℕ) (number : ℕ) (exts : Ipv6ExtensionsSli
     (stop : Option (HeaderSliceError × Layer)) : Type 0 where
   pub places : List Place
   pub last : Option (Stop HeaderSliceError)
-  pub layout : IsLayoutFrom (extension_grammar chain_errors) bytes (turn_to 0 false (first_extension_kind number)) 0 (length bytes) places last
+  pub layout : IsLayoutFrom (extension_grammar chain_errors) bytes
+      (turn_to 0 false (first_extension_kind number)) 0 (length bytes) places last
   pub first : first_header_of exts
       ≡ (if end_of_headers 0 places == 0 then None else Some (record { 0 = number }))
   pub headers : bytes_of_extensions exts ≡ take (end_of_headers 0 places) bytes

@@ -10,7 +10,8 @@ use Rattle.ether_ip.specs.PacketGrammar.{packet_grammar}
 -- what a header of a kind names, behind some link extensions and in a fragment or not
 abbrev pub named : PartKind → ℕ → Bool → List ℕ → Option PartKind
 named kind held fragmented header =
-    option_map (λ turn. turn.kind) (packet_grammar.next (record { kind = kind; link_exts = held; fragmented = fragmented }) header)
+    option_map (λ turn. turn.kind)
+    (packet_grammar.next (record { kind = kind; link_exts = held; fragmented = fragmented }) header)
 
 -- an Ethernet header, a tag and a security tag with an ether type
 abbrev pub ethernet : ℕ → ℕ → List ℕ
@@ -50,7 +51,8 @@ NamesByEtherType =
     (map (λ low. named Ethernet2 0 false (ethernet 0x08 low)) (0x00 ∷ 0x01 ∷ 0x05 ∷ 0x06 ∷ 0x07 ∷ [])
     ≡ Some Ip ∷ None ∷ None ∷ Some Arp ∷ None ∷ [])
     × (map (λ low. named Ethernet2 0 false (ethernet 0x81 low)) (0x00 ∷ 0x01 ∷ []) ≡ Some Vlan ∷ None ∷ [])
-    × (map (λ low. named Ethernet2 0 false (ethernet 0x88 low)) (0xa7 ∷ 0xa8 ∷ 0xe4 ∷ 0xe5 ∷ []) ≡ None ∷ Some Vlan ∷ None ∷ Some Macsec ∷ [])
+    × (map (λ low. named Ethernet2 0 false (ethernet 0x88 low)) (0xa7 ∷ 0xa8 ∷ 0xe4 ∷ 0xe5 ∷ [])
+    ≡ None ∷ Some Vlan ∷ None ∷ Some Macsec ∷ [])
     × (map (λ low. named Ethernet2 0 false (ethernet 0x91 low)) (0x00 ∷ 0x01 ∷ []) ≡ Some Vlan ∷ None ∷ [])
     × (map (λ low. named Ethernet2 0 false (ethernet 0x86 low)) (0xdc ∷ 0xdd ∷ []) ≡ None ∷ Some Ip ∷ [])
 
@@ -60,7 +62,9 @@ HasThreeLinkExtensions =
     (named Vlan 1 false (tag 0x81 0x00) ≡ Some Vlan) × (named Vlan 2 false (tag 0x81 0x00) ≡ None)
     × (named Vlan 1 false (tag 0x88 0xe5) ≡ Some Macsec) × (named Vlan 2 false (tag 0x88 0xe5) ≡ None)
     × (named Vlan 2 false (tag 0x08 0x00) ≡ Some Ip) × (named Vlan 2 false (tag 0x08 0x06) ≡ Some Arp)
-    × (option_map (λ turn. turn.link_exts) (packet_grammar.next (record { kind = Vlan; link_exts = 1; fragmented = false }) (tag 0x81 0x00)) ≡ Some 2)
+    × (option_map (λ turn. turn.link_exts)
+    (packet_grammar.next (record { kind = Vlan; link_exts = 1; fragmented = false }) (tag 0x81 0x00))
+    ≡ Some 2)
 
 -- an unmodified payload goes on by its ether type, a changed or encrypted one names nothing (IEEE 802.1AE,
 -- section 9.5)
@@ -73,22 +77,14 @@ NamesBehindSecurityTag =
     × (named Macsec 0 false (security_tag 0x0c 0) ≡ None)
     × (named Macsec 2 false (security_tag 0x00 0 ++ 0x81 ∷ 0x00 ∷ []) ≡ None)
 
--- how many bytes a security tag says that it and its payload have: the short length counts the ether type of
--- an unmodified payload
-abbrev pub AnnouncesBySecurityTag : Type 0
-AnnouncesBySecurityTag =
-    (packet_grammar.announced Macsec (security_tag 0x00 0 ++ 0x08 ∷ 0x00 ∷ []) ≡ None)
-    × (packet_grammar.announced Macsec (security_tag 0x00 46 ++ 0x08 ∷ 0x00 ∷ []) ≡ Some 52)
-    × (packet_grammar.announced Macsec (security_tag 0x0c 46) ≡ Some 52)
-    × (packet_grammar.announced Macsec (security_tag 0x0c 71) ≡ Some 13)
-
 -- hardware 1 and 772 carry ether types, the other known kinds name nothing (LINKTYPE_LINUX_SLL)
 abbrev pub NamesByHardware : Type 0
 NamesByHardware =
     (named LinuxSll 0 false (cooked 0 1 0x08 0x00) ≡ Some Ip)
     × (named LinuxSll 0 false (cooked 3 4 0x08 0x06) ≡ Some Arp)
     × (named LinuxSll 0 false (cooked 3 4 0x81 0x00) ≡ Some Vlan)
-    × (map (λ low. named LinuxSll 0 false (cooked 3 low 0x08 0x00)) (2 ∷ 10 ∷ 35 ∷ 55 ∷ 56 ∷ []) ≡ None ∷ None ∷ None ∷ None ∷ None ∷ [])
+    × (map (λ low. named LinuxSll 0 false (cooked 3 low 0x08 0x00)) (2 ∷ 10 ∷ 35 ∷ 55 ∷ 56 ∷ [])
+    ≡ None ∷ None ∷ None ∷ None ∷ None ∷ [])
 
 -- the numbers of extension headers right behind the IPv6 header, and behind another one (RFC 8200, sections 4
 -- and 4.1; IANA)
@@ -107,14 +103,16 @@ abbrev pub NamesTransport : Type 0
 NamesTransport =
     (map (λ protocol. named Ip 0 false (ipv4 0x40 0 protocol)) (1 ∷ 6 ∷ 17 ∷ 58 ∷ 0 ∷ 2 ∷ 4 ∷ 41 ∷ [])
     ≡ Some Icmpv4 ∷ Some Tcp ∷ Some Udp ∷ Some Icmpv6 ∷ None ∷ None ∷ None ∷ None ∷ [])
-    × (map (λ next. named Ip 0 false (ipv6 next)) (1 ∷ 6 ∷ 17 ∷ 58 ∷ []) ≡ Some Icmpv4 ∷ Some Tcp ∷ Some Udp ∷ Some Icmpv6 ∷ [])
+    × (map (λ next. named Ip 0 false (ipv6 next)) (1 ∷ 6 ∷ 17 ∷ 58 ∷ [])
+    ≡ Some Icmpv4 ∷ Some Tcp ∷ Some Udp ∷ Some Icmpv6 ∷ [])
     × (named Route 0 false (options 6) ≡ Some Tcp) × (named Ipv6Auth 0 false (options 17) ≡ Some Udp)
 
 -- behind an IPv4 header there is one authentication header at most, and no other extension header (RFC 4302,
 -- section 3.1)
 abbrev pub NamesBehindIpv4 : Type 0
 NamesBehindIpv4 =
-    (map (λ protocol. named Ip 0 false (ipv4 0 0 protocol)) (51 ∷ 43 ∷ 44 ∷ 60 ∷ []) ≡ Some Ipv4Auth ∷ None ∷ None ∷ None ∷ [])
+    (map (λ protocol. named Ip 0 false (ipv4 0 0 protocol)) (51 ∷ 43 ∷ 44 ∷ 60 ∷ [])
+    ≡ Some Ipv4Auth ∷ None ∷ None ∷ None ∷ [])
     × (map (λ next. named Ipv4Auth 0 false (options next)) (51 ∷ 60 ∷ 17 ∷ []) ≡ None ∷ None ∷ Some Udp ∷ [])
 
 -- a fragment carries no transport header, but its extension headers go on (RFC 791, section 3.1; RFC 8200,
@@ -133,16 +131,5 @@ NamesInFragment =
 -- nothing is named behind ARP and behind the transport headers
 abbrev pub EndsThere : Type 0
 EndsThere =
-    map (λ kind. named kind 0 false (ethernet 0x08 0x00)) (Arp ∷ Udp ∷ Tcp ∷ Icmpv4 ∷ Icmpv6 ∷ []) ≡ None ∷ None ∷ None ∷ None ∷ None ∷ []
-
--- how many bytes headers say that header and payload have (RFC 791, section 3.1; RFC 8200, section 3; RFC
--- 768)
-abbrev pub AnnouncesByLength : Type 0
-AnnouncesByLength =
-    (packet_grammar.announced Ip (ipv4 0 0 17) ≡ Some 20)
-    × (packet_grammar.announced Ip (0x45 ∷ 0 ∷ 1 ∷ 0x10 ∷ replicate 16 0) ≡ Some 272)
-    × (packet_grammar.announced Ip (0x46 ∷ 0 ∷ 0 ∷ 23 ∷ replicate 20 0) ≡ None)
-    × (packet_grammar.announced Ip (ipv6 17) ≡ None)
-    × (packet_grammar.announced Ip (0x60 ∷ 0 ∷ 0 ∷ 0 ∷ 0 ∷ 8 ∷ replicate 34 0) ≡ Some 48)
-    × (packet_grammar.announced Udp (replicate 4 0 ++ 0 ∷ 7 ∷ 0 ∷ 0 ∷ []) ≡ None)
-    × (packet_grammar.announced Udp (replicate 4 0 ++ 0 ∷ 8 ∷ 0 ∷ 0 ∷ []) ≡ Some 8)
+    map (λ kind. named kind 0 false (ethernet 0x08 0x00)) (Arp ∷ Udp ∷ Tcp ∷ Icmpv4 ∷ Icmpv6 ∷ [])
+    ≡ None ∷ None ∷ None ∷ None ∷ None ∷ []

@@ -43,7 +43,8 @@ extension_form_of errors Route = raw_ext_form (layer_of_kind Route) errors.wrong
 extension_form_of errors DestinationOptions = raw_ext_form (layer_of_kind DestinationOptions) errors.wrong_len
 extension_form_of errors Fragment = fragment_form errors.wrong_len
 extension_form_of errors Ipv4Auth = auth_form errors.wrong_len errors.behind_ipv4
-extension_form_of errors Ipv6Auth = auth_form errors.wrong_len (λ error. errors.behind_ipv6 (extension.TheVariants.IpAuth error))
+extension_form_of errors Ipv6Auth =
+    auth_form errors.wrong_len (λ error. errors.behind_ipv6 (extension.TheVariants.IpAuth error))
 extension_form_of errors LateHopByHop =
     late_form errors.wrong_len (errors.behind_ipv6 extension.TheVariants.HopByHopNotAtStart)
 extension_form_of errors no_extension =
@@ -82,5 +83,6 @@ extension_grammar errors = record {
   form_of = extension_form_of errors;
   announced = λ kind header. None;
   next = λ turn header.
-      turn_to turn.link_exts (fragmented_behind turn.kind turn.fragmented header) (kind_behind turn.kind (slice_index header 0));
+      turn_to turn.link_exts (fragmented_behind turn.kind turn.fragmented header)
+      (kind_behind turn.kind (slice_index header 0));
 }

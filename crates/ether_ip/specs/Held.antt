@@ -44,7 +44,9 @@ abbrev pub with_extension : Ipv6ExtensionSlice → ExtensionPlaces → Extension
 with_extension (HopByHop header) held = record held { hop_by_hop_options = Some header }
 with_extension (Routing header) held = record held { routing = Some header }
 with_extension (DestinationOptions header) held =
-    if is_some held.routing then record held { final_destination_options = Some header } else record held { destination_options = Some header }
+    if is_some held.routing
+    then record held { final_destination_options = Some header }
+    else record held { destination_options = Some header }
 with_extension (Fragment header) held = record held { fragment = Some header }
 with_extension (Authentication header) held = record held { auth = Some header }
 

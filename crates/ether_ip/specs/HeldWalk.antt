@@ -12,11 +12,13 @@ use Rattle.ether_ip.specs.declared.err.ipv6_exts.HeaderSliceError.{HeaderSliceEr
 use Rattle.ether_ip.specs.declared.ip.ext_places.ExtensionPlaces.{ExtensionPlaces}
 
 -- the headers of a packet from a place on, up to the first one that is refused or whose place is taken
-pub record IsHeldEnd (packet : List ℕ) (first : Option PartKind) (number : ℕ) (fragmented : Bool) (from to : ℕ)
-    (held : ExtensionPlaces) (at next : ℕ) (is_fragment : Bool) (stop : Option (Stop HeaderSliceError)) : Type 0 where
+pub record IsHeldEnd (packet : List ℕ) (first : Option PartKind) (number : ℕ) (fragmented : Bool)
+    (from to : ℕ) (held : ExtensionPlaces) (at next : ℕ) (is_fragment : Bool)
+    (stop : Option (Stop HeaderSliceError)) : Type 0 where
   pub places : List Place
   pub last : Option (Stop HeaderSliceError)
-  pub layout : IsLayoutFrom (extension_grammar chain_errors) packet (turn_to 0 fragmented first) from to places last
+  pub layout : IsLayoutFrom (extension_grammar chain_errors) packet (turn_to 0 fragmented first)
+      from to places last
   pub held_is : held ≡ held_by packet no_extensions (free_places packet no_extensions places)
   pub at_end : at ≡ end_of_headers from (free_places packet no_extensions places)
   pub within : at ≤ to

@@ -53,7 +53,8 @@ abbrev pub icmpv4_type : List ℕ → Icmpv4Type
 icmpv4_type bytes =
     if icmp_is 0 0 bytes then EchoReply (icmp_echo bytes)
     else (if icmp_is 8 0 bytes then EchoRequest (icmp_echo bytes)
-    else (if (slice_index bytes 0 == 5) && nat_le (slice_index bytes 1) 3 then Redirect (redirect_header bytes)
+    else (if (slice_index bytes 0 == 5) && nat_le (slice_index bytes 1) 3
+    then Redirect (redirect_header bytes)
     else (if icmp_is 13 0 bytes then TimestampRequest (timestamp_message bytes)
     else (if icmp_is 14 0 bytes then TimestampReply (timestamp_message bytes)
     else Unknown (slice_index bytes 0) (slice_index bytes 1) (bytes_between 4 8 bytes)))))

@@ -32,7 +32,8 @@ parameter_problem bytes = record { code = record { 0 = slice_index bytes 1 }; po
 -- what the message is, by its type and its code
 abbrev pub icmpv6_type : List ℕ → Icmpv6Type
 icmpv6_type bytes =
-    if (slice_index bytes 0 == 4) && nat_le (slice_index bytes 1) 10 then ParameterProblem (parameter_problem bytes)
+    if (slice_index bytes 0 == 4) && nat_le (slice_index bytes 1) 10
+    then ParameterProblem (parameter_problem bytes)
     else (if icmp_is 128 0 bytes then EchoRequest (icmp_echo bytes)
     else (if icmp_is 129 0 bytes then EchoReply (icmp_echo bytes)
     else Unknown (slice_index bytes 0) (slice_index bytes 1) (bytes_between 4 8 bytes)))

@@ -78,7 +78,8 @@ pub record IsReadOf (packet : List ℕ) (read : IpHeaders) (payload : LaxIpPaylo
   pub held : ExtensionPlaces
   pub at : ℕ
   pub last : Option (Stop chain.HeaderSliceError)
-  pub extensions : IsHeldEnd packet (extension_in (ip_header packet)) (number_in (ip_header packet)) (is_fragment_in (ip_header packet))
+  pub extensions : IsHeldEnd packet (extension_in (ip_header packet)) (number_in (ip_header packet))
+      (is_fragment_in (ip_header packet))
       (length (ip_header packet)) (window_end 0 (length packet) (ip_announced (ip_header packet)))
       held at payload.ip_number.0 payload.fragmented last
   pub headers_are : read ≡ headers_with (ip_header packet) held
@@ -86,4 +87,5 @@ pub record IsReadOf (packet : List ℕ) (read : IpHeaders) (payload : LaxIpPaylo
       ≡ slice_range packet at (window_end 0 (length packet) (ip_announced (ip_header packet)))
   pub incomplete : payload.incomplete ≡ is_cut_off 0 (length packet) (ip_announced (ip_header packet))
   pub source : payload.len_source ≡ ip_source (ip_header packet) 0 (length packet)
-  pub stopped : IsStopIn (is_ipv4 (ip_header packet)) (ip_source (ip_header packet) 0 (length packet)) last stop
+  pub stopped : IsStopIn (is_ipv4 (ip_header packet)) (ip_source (ip_header packet) 0 (length packet))
+      last stop

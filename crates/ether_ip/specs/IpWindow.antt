@@ -22,5 +22,6 @@ ip_announced header = if ip_version header == 4 then ipv4_announced header else 
 abbrev pub ip_source : List ℕ → ℕ → ℕ → LenSource
 ip_source header start end =
     if ip_version header == 4 then source_of_length Ipv4HeaderTotalLen start end (ipv4_announced header)
-    else (if end == start + 40 then source_of_length Ipv6HeaderPayloadLen start end (Some (40 + be16_at header 4))
+    else (if end == start + 40
+    then source_of_length Ipv6HeaderPayloadLen start end (Some (40 + be16_at header 4))
     else source_of_length Ipv6HeaderPayloadLen start end (ipv6_announced header))

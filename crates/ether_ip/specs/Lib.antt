@@ -1,3 +1,4 @@
+pub mod AnnouncedExamples
 pub mod Auth
 pub mod Chain
 pub mod ChainSlice

@@ -53,7 +53,8 @@ transport_kind number =
 -- fragment
 abbrev pub part_turn : ℕ → Bool → Option PartKind → ℕ → Option Turn
 part_turn held fragmented extension number =
-    or_else (turn_to held fragmented extension) (if fragmented then None else turn_to held false (transport_kind number))
+    or_else (turn_to held fragmented extension)
+    (if fragmented then None else turn_to held false (transport_kind number))
 
 -- the part that a header names
 abbrev pub ip_next_of : PartKind → Turn → List ℕ → Option Turn
@@ -64,11 +65,16 @@ ip_next_of kind.Tcp turn header = None
 ip_next_of kind.Icmpv4 turn header = None
 ip_next_of kind.Icmpv6 turn header = None
 ip_next_of other turn header =
-    part_turn turn.link_exts (fragmented_behind other turn.fragmented header) (kind_behind other (slice_index header 0)) (slice_index header 0)
+    part_turn turn.link_exts (fragmented_behind other turn.fragmented header)
+    (kind_behind other (slice_index header 0)) (slice_index header 0)
 
 -- the parts of an IP packet
 abbrev pub ip_grammar : Grammar SliceError
-ip_grammar = record { form_of = ip_form_of; announced = ip_announced_of; next = λ turn. ip_next_of turn.kind turn }
+ip_grammar = record {
+  form_of = ip_form_of;
+  announced = ip_announced_of;
+  next = λ turn. ip_next_of turn.kind turn;
+}
 
 -- the parts of a packet
 abbrev pub packet_grammar : Grammar SliceError

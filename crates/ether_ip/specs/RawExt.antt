@@ -13,7 +13,8 @@ use Rattle.ether_ip.specs.declared.ip.raw_ext.Ipv6RawExtHeader.{Ipv6RawExtHeader
 -- options
 abbrev pub raw_ext_layer : ℕ → Layer
 raw_ext_layer number =
-    if number == hop_by_hop then Ipv6HopByHopHeader else (if number == ipv6_route then Ipv6RouteHeader else Ipv6DestOptionsHeader)
+    if number == hop_by_hop then Ipv6HopByHopHeader
+    else (if number == ipv6_route then Ipv6RouteHeader else Ipv6DestOptionsHeader)
 
 -- a header has eight bytes, and as many times eight more as it says
 abbrev pub raw_ext_form : {E : Type 0} → Layer → (LenError → E) → Form E

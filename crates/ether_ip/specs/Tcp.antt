@@ -20,7 +20,10 @@ abbrev pub tcp_form : {E : Type 0} → (LenError → E) → (HeaderError → E) 
 tcp_form wrong_len wrong = record {
   least = 20;
   layer = TcpLayer;
-  early = λ head. if nat_lt (tcp_data_offset head) 5 then Some (wrong (DataOffsetTooSmall (tcp_data_offset head))) else None;
+  early = λ head.
+      if nat_lt (tcp_data_offset head) 5
+      then Some (wrong (DataOffsetTooSmall (tcp_data_offset head)))
+      else None;
   more = λ head. tcp_data_offset head * 4 - 20;
   whole = λ head. TcpLayer;
   source = Slice;

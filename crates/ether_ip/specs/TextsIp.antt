@@ -28,7 +28,8 @@ ip_auth_header_slice_text (ip_auth_header_slice.TheVariants.Len error) = len_tex
 ip_auth_header_slice_text (ip_auth_header_slice.TheVariants.Content error) = ip_auth_text error
 
 abbrev pub ipv4_text : ipv4.HeaderError → List ℕ
-ipv4_text (ipv4.TheVariants.UnexpectedVersion version_number) = codes "ipv4 version " ++ decimal version_number
+ipv4_text (ipv4.TheVariants.UnexpectedVersion version_number) =
+    codes "ipv4 version " ++ decimal version_number
 ipv4_text (ipv4.TheVariants.HeaderLengthSmallerThanHeader ihl) = codes "ipv4 header length " ++ decimal ihl
 
 abbrev pub ipv4_header_slice_text : ipv4_header_slice.HeaderSliceError → List ℕ
@@ -49,7 +50,8 @@ ipv6_exts_header_slice_text (ipv6_exts_header_slice.TheVariants.Len error) = len
 ipv6_exts_header_slice_text (ipv6_exts_header_slice.TheVariants.Content error) = ipv6_exts_text error
 
 abbrev pub ipv6_text : ipv6.HeaderError → List ℕ
-ipv6_text (ipv6.TheVariants.UnexpectedVersion version_number) = codes "ipv6 version " ++ decimal version_number
+ipv6_text (ipv6.TheVariants.UnexpectedVersion version_number) =
+    codes "ipv6 version " ++ decimal version_number
 
 abbrev pub ipv6_header_slice_text : ipv6_header_slice.HeaderSliceError → List ℕ
 ipv6_header_slice_text (ipv6_header_slice.TheVariants.Len error) = len_text error

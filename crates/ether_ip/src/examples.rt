@@ -1,5 +1,6 @@
 //! The grammar of packets on examples, as calls without a body: each says what headers made by hand name.
-ghost use Rattle.ether_ip.specs.Examples.{NamesByEtherType, HasThreeLinkExtensions, NamesBehindSecurityTag, AnnouncesBySecurityTag, NamesByHardware, NamesByNextHeader, NamesTransport, NamesBehindIpv4, NamesInFragment, EndsThere, AnnouncesByLength};
+ghost use Rattle.ether_ip.specs.AnnouncedExamples.{AnnouncesBySecurityTag, AnnouncesByLength};
+ghost use Rattle.ether_ip.specs.Examples.{NamesByEtherType, HasThreeLinkExtensions, NamesBehindSecurityTag, NamesByHardware, NamesByNextHeader, NamesTransport, NamesBehindIpv4, NamesInFragment, EndsThere};
 
 /// Which part an ether type names.
 pub fn ether_types_name_parts()

@@ -57,7 +57,8 @@ HasIpv6Window =
     (ends Ip (ipv6 4 17 3 ∷ ipv6 4 17 4 ∷ ipv6 4 17 5 ∷ ipv6 0 17 0 ∷ ipv6 0 17 5 ∷ [])
     ≡ 43 ∷ 44 ∷ 44 ∷ 40 ∷ 45 ∷ [])
     × (lacks Ip (ipv6 4 17 3 ∷ ipv6 4 17 4 ∷ ipv6 0 17 5 ∷ []) ≡ true ∷ false ∷ false ∷ [])
-    × (map (λ bytes. source_at bytes (whole Ip bytes)) (ipv6 4 17 3 ∷ ipv6 4 17 4 ∷ ipv6 0 17 0 ∷ ipv6 0 17 5 ∷ [])
+    × (map (λ bytes. source_at bytes (whole Ip bytes))
+    (ipv6 4 17 3 ∷ ipv6 4 17 4 ∷ ipv6 0 17 0 ∷ ipv6 0 17 5 ∷ [])
     ≡ Slice ∷ Ipv6HeaderPayloadLen ∷ Ipv6HeaderPayloadLen ∷ Slice ∷ [])
 
 -- a datagram ends where its length says, if that has room for the header and so much is there (RFC 768)

@@ -36,11 +36,14 @@ abbrev pub sender_protocol_addr : List ℕ → List ℕ
 sender_protocol_addr bytes = bytes_between (8 + hw_size bytes) (8 + hw_size bytes + protocol_size bytes) bytes
 
 abbrev pub target_hw_addr : List ℕ → List ℕ
-target_hw_addr bytes = bytes_between (8 + hw_size bytes + protocol_size bytes) (8 + 2 * hw_size bytes + protocol_size bytes) bytes
+target_hw_addr bytes =
+    bytes_between (8 + hw_size bytes + protocol_size bytes)
+    (8 + 2 * hw_size bytes + protocol_size bytes) bytes
 
 abbrev pub target_protocol_addr : List ℕ → List ℕ
 target_protocol_addr bytes =
-    bytes_between (8 + 2 * hw_size bytes + protocol_size bytes) (8 + 2 * hw_size bytes + 2 * protocol_size bytes) bytes
+    bytes_between (8 + 2 * hw_size bytes + protocol_size bytes)
+    (8 + 2 * hw_size bytes + 2 * protocol_size bytes) bytes
 
 -- the fields
 abbrev pub arp_packet : List ℕ → ArpPacket

@@ -67,10 +67,12 @@ abbrev pub refusal : {E : Type 0} → Form E → List ℕ → Option E
 refusal form bytes =
     or_else (short form.wrong_len form.layer Slice (length bytes) form.least)
     (or_else (form.early (take form.least bytes))
-    (or_else (short form.wrong_len (form.whole (take form.least bytes)) form.source (length bytes) (header_len form bytes))
+    (or_else (short form.wrong_len (form.whole (take form.least bytes)) form.source (length bytes)
+    (header_len form bytes))
     (or_else (form.late (take form.least bytes))
     (if form.alone (take form.least bytes)
-    then long form.wrong_len (form.whole (take form.least bytes)) form.source (length bytes) (header_len form bytes)
+    then long form.wrong_len (form.whole (take form.least bytes)) form.source (length bytes)
+    (header_len form bytes)
     else None))))
 
 -- the bytes are exactly the header

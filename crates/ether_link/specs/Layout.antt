@@ -45,7 +45,8 @@ IsLayoutFrom {E} grammar frame (Some turn) start end [] stop =
 IsLayoutFrom grammar frame (Some turn) start end (place ∷ more) stop =
     (refusal (grammar.form_of turn.kind) (slice_range frame start end) ≡ None)
     × (place ≡ place_of grammar turn.kind (slice_range frame start end) start end)
-    × IsLayoutFrom grammar frame (grammar.next turn (header grammar turn.kind (slice_range frame start end))) place.body place.end more stop
+    × IsLayoutFrom grammar frame (grammar.next turn (header grammar turn.kind (slice_range frame start end)))
+    place.body place.end more stop
 
 -- an accepted header has bytes, and what it announces has room for it
 pub record IsOrderly {E : Type 0} (grammar : Grammar E) : Type 0 where

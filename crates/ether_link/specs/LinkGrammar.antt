@@ -73,7 +73,9 @@ module _ {E : Type 0} (errors : LinkErrors E) (above : Grammar E) where
   link_next_of LinuxSll turn header =
       by_protocol_type (protocol_type_of (be16_at header 2) (be16_at header 14))
   link_next_of Vlan turn header = by_ether_type (turn.link_exts + 1) (be16_at header 2)
-  link_next_of Macsec turn header = option_and_then (λ ether_type. by_ether_type (turn.link_exts + 1) ether_type.0) (macsec_next_ether_type header)
+  link_next_of Macsec turn header =
+      option_and_then (λ ether_type. by_ether_type (turn.link_exts + 1) ether_type.0)
+      (macsec_next_ether_type header)
   link_next_of Arp turn header = None
   link_next_of kind turn header = above.next turn header
 

@@ -35,7 +35,8 @@ linux_sll_form wrong_len wrong = record {
   layer = LinuxSllLayer;
   early = λ head. or_else
       (if nat_lt 4 (be16_at head 0) then Some (wrong (UnsupportedPacketTypeField (be16_at head 0))) else None)
-      (if is_known_hardware (be16_at head 2) then None else Some (wrong (UnsupportedArpHardwareId (record { 0 = be16_at head 2 }))));
+      (if is_known_hardware (be16_at head 2) then None
+      else Some (wrong (UnsupportedArpHardwareId (record { 0 = be16_at head 2 }))));
   more = nothing_more;
   whole = λ head. LinuxSllLayer;
   source = Slice;

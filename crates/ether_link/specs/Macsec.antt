@@ -32,7 +32,8 @@ macsec_form wrong_len wrong = record {
   more = λ head. (if flag_at head 0 5 then 8 else 0) + (if is_unmodified head then 2 else 0);
   whole = λ head. MacsecLayer;
   source = Slice;
-  late = λ head. if is_unmodified head && (short_len head == 1) then Some (wrong InvalidUnmodifiedShortLen) else None;
+  late = λ head.
+      if is_unmodified head && (short_len head == 1) then Some (wrong InvalidUnmodifiedShortLen) else None;
   alone = never_alone;
   wrong_len = wrong_len;
 }
@@ -58,7 +59,9 @@ macsec_next_ether_type bytes =
 abbrev pub macsec_ptype : List ℕ → MacsecPType
 macsec_ptype bytes =
     if is_unmodified bytes then Unmodified (record { 0 = be16_at bytes (length bytes - 2) })
-    else (if flag_at bytes 0 3 then (if flag_at bytes 0 2 then Encrypted else EncryptedUnmodified) else Modified)
+    else (if flag_at bytes 0 3
+    then (if flag_at bytes 0 2 then Encrypted else EncryptedUnmodified)
+    else Modified)
 
 -- the fields
 abbrev pub macsec_header : List ℕ → MacsecHeader

@@ -34,7 +34,8 @@ layer_word LinuxSllHeader = codes "linux-sll"
 -- a length that is refused
 abbrev pub len_text : LenError → List ℕ
 len_text error =
-    layer_word error.layer ++ (codes ": " ++ (decimal error.required_len ++ (codes " bytes needed, " ++ (decimal error.len ++ codes " there"))))
+    layer_word error.layer ++ (codes ": " ++ (decimal error.required_len
+    ++ (codes " bytes needed, " ++ (decimal error.len ++ codes " there"))))
 
 abbrev pub macsec_text : macsec.HeaderError → List ℕ
 macsec_text macsec.TheVariants.UnexpectedVersion = codes "macsec version bit set"

@@ -50,7 +50,8 @@ pub fn kept_part<E>(bytes: &[u8], n: usize)
 /// A layout of some bytes of a frame is one of the frame, counted from its first byte.
 pub fn layout_in_place<E>(frame: &[u8], from: usize, to: usize)
     ensures { (grammar : Grammar E)
-        → (turn : Option Turn) (start end : ℕ) (places : List Place) (stop : Option (Stop E)) → end ≤ to - from
+        → (turn : Option Turn) (start end : ℕ) (places : List Place) (stop : Option (Stop E))
+        → end ≤ to - from
         → IsLayoutFrom grammar (slice_range frame.now from to) turn start end places stop
         → IsLayoutFrom grammar frame.now turn (from + start) (from + end)
         (moved_places from places) (moved_stop from stop) }

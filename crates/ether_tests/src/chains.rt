@@ -8,7 +8,8 @@ use ether_link::err::{Layer, LenError};
 use ether_link::{IpNumber, LenSource};
 use std::test::Fail;
 
-/// An IPv6 packet with three extension headers of eight bytes: the number of the first one, and what each names.
+/// An IPv6 packet with three extension headers of eight bytes: the number of the first one, and what each
+/// names.
 fn packet(first: u8, named: [u8; 3]) -> [u8; 64] {
     let mut bytes = [0; 64];
     bytes[0] = 0x60;

@@ -8,8 +8,8 @@ pub fn sent_frames_are_cut()
     ensures { AreCutAsSent }
 {}
 
-/// Every frame that is sent with an ARP packet (`net_wire::arp_frame`) is cut, without a stop, into the headers of
-/// Ethernet and ARP with the values of the packet, also where padding follows.
+/// Every frame that is sent with an ARP packet (`net_wire::arp_frame`) is cut, without a stop, into the
+/// headers of Ethernet and ARP with the values of the packet, also where padding follows.
 pub fn sent_arp_frames_are_cut()
     ensures { IsArpCutAsSent }
 {}
