@@ -10,6 +10,10 @@ pub mod SlotCallLemmas
 pub mod CutLemmas
 pub mod RangeLemmas
 pub mod LawLemmas
+pub mod Walks
+pub mod WalkSteps
+pub mod InnerLoans
+pub mod MapWalks
 pub mod LoanLemmas
 pub mod LoanLaws
 pub mod VariantLoans

@@ -4,7 +4,7 @@ use Rattle.std.specs.Bool.{IsTrue, IsFalse}
 use Rattle.std.specs.Cmp.{IsTotalOrder}
 use Rattle.std.specs.Fn.{Once, Mut}
 use Rattle.std.specs.List.{FoldsTo}
-use Rattle.std.specs.Map.{keys_of, set_value}
+use Rattle.std.specs.Map.{keys_of}
 use Rattle.std.specs.Map.Calls.{SomeCallAtPair, CallableOnEachPair, RetainsPairs}
 use Rattle.std.specs.Option.{IsSome, option_map}
 use Rattle.std.specs.BTreeMap.{is_at}

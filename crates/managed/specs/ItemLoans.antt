@@ -7,7 +7,6 @@ use Rattle.std.specs.contracts.vec.Vec as vec
 use Rattle.std.specs.contracts.alloc.Global as heap
 use Rattle.std.specs.contracts.impls.GlobalAllocator.TheImpl as impl
 use denote.Ref.{at_last}
-use denote.Slice.{MutSlice}
 use mir.Syntax.{named}
 use Rattle.managed.specs.declared.slice.ManagedSlice as slice
 use Rattle.managed.specs.contracts.slice.ManagedSlice as row
@@ -27,10 +26,6 @@ module _ (T : RattleType) where
   -- the list behind m ends with the last items behind r
   abbrev pub lends_items : MutBor (slice.ManagedSlice T.Denot) → MutBor (List T.Denot) → Fml
   lends_items m r = Lends (row.the_row (record { mir = named 1; lft = [] }) T) (Array T 0) m r (storing m.now)
-
-  -- the reference behind m ends with the last items behind r
-  abbrev pub lends_behind : MutBor (MutBor (List T.Denot)) → MutBor (List T.Denot) → Fml
-  lends_behind m r = Lends (MutSlice (named 1) [] T) (Array T 0) m r (at_last m.now)
 
   -- the list on the heap ends with the last items behind r
   abbrev pub lends_heap : MutBor (Vec T.Denot Global) → MutBor (List T.Denot) → Fml

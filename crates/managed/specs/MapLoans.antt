@@ -8,8 +8,6 @@ use Rattle.std.specs.Borrow.{Lends, LendsIf, LendsSo, MutBor, Fml, RattleType, A
 use Rattle.std.specs.contracts.option.Option.{the_row as option_row}
 use Rattle.std.specs.contracts.alloc.Global as heap
 use Rattle.std.specs.contracts.impls.GlobalAllocator.TheImpl as impl
-use denote.Ref.{at_last}
-use denote.Slice.{MutSlice}
 use denote.Struct.Tuple.{Tuple}
 use mir.Syntax.{named}
 use Rattle.managed.specs.SortedMap.{filled, pairs, IsSortedPlaces, IsSortedMap, KeepsStorage}
@@ -56,10 +54,6 @@ module _ (K V : RattleType) where
   -- the places end with the last value behind r at one of them
   abbrev pub lends_place : MutBor Places → ℕ → MutBor (Option (K.Denot × V.Denot)) → Fml
   lends_place places at r = Lends (Array place_row 0) place_row places r (slice_set places.now at)
-
-  -- the reference behind m ends with the last places behind r
-  abbrev pub lends_places : MutBor (MutBor Places) → MutBor Places → Fml
-  lends_places m r = Lends (MutSlice (named 1) [] place_row) (Array place_row 0) m r (at_last m.now)
 
   -- the place ends with the last value behind r in its pair
   abbrev pub lends_value_in : MutBor (Option (K.Denot × V.Denot)) → Option (MutBor V.Denot) → Fml

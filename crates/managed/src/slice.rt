@@ -1,7 +1,7 @@
 //! A list, owned or borrowed.
 ghost use Rattle.std.specs.Prelude.{◌≡◌, ◌<◌, length, slice_set, IfOk};
 ghost use Rattle.std.specs.Borrow.{sem};
-ghost use Rattle.managed.specs.ItemLoans.{lends_behind, lends_heap};
+ghost use Rattle.managed.specs.ItemLoans.{lends_heap};
 ghost use Rattle.managed.specs.Storage.{items_of, KeepsItemStorage};
 ghost use Rattle.managed.specs.declared.slice.ManagedSlice.TheVariants.{Borrowed, Owned};
 
@@ -63,18 +63,10 @@ impl<'a, T> ManagedSlice<'a, T> {
         ensures value { result.now ≡ items_of self.old }
     {
         match self {
-            ManagedSlice::Borrowed(items) => behind(items),
+            ManagedSlice::Borrowed(items) => items,
             ManagedSlice::Owned(items) => items_in(items),
         }
     }
-}
-
-// The items behind a reference that is itself behind one.
-pub(crate) fn behind<'a, 'b, T>(items: &'b mut &'a mut [T]) -> &'b mut [T]
-    ensures* written { sem 𝓛 (lends_behind T.row items.entry result) }
-    ensures value { result.now ≡ items.old.now }
-{
-    items
 }
 
 // The items of a list on the heap.

@@ -69,6 +69,18 @@ impl<'a, K: Ord, V> Iterator for IterMut<'a, K, V> {
     }
 }
 
+// What a walk has left. Nothing calls it: a type that has a drop of its own can't be taken apart so, and a
+// walk that is left early writes no place.
+fn left_in<'a, K: Ord, V>(walk: IterMut<'a, K, V>) -> Left<'a, K, V>
+    ensures { result ≡ walk.entry.left }
+{
+    let IterMut { left } = walk;
+    match left {
+        Left::Borrowed(places) => Left::Borrowed(places),
+        Left::Owned(pairs) => Left::Owned(pairs),
+    }
+}
+
 // A walk over places.
 pub(super) fn over_places<'a, K: Ord, V>(places: &'a mut [Option<(K, V)>]) -> IterMut<'a, K, V>
     ensures same { walk_name result ≡ places.entry.ghost_name }

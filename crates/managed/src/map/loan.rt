@@ -2,20 +2,10 @@
 ghost use Rattle.std.specs.Prelude.{◌≡◌, ◌<◌, None, length, slice_index_or};
 ghost use Rattle.std.specs.Option.{option_copied_mut, option_map};
 ghost use Rattle.std.specs.Borrow.{sem};
-ghost use Rattle.managed.specs.MapLoans.{lends_places, lends_place, lends_value_in, lends_value_at, lends_in_tree};
+ghost use Rattle.managed.specs.MapLoans.{lends_place, lends_value_in, lends_value_at, lends_in_tree};
 ghost use Rattle.managed.specs.SortedMap.{value_at};
 
 use std::collections::BTreeMap;
-
-// The places behind a reference that is itself behind one.
-pub(super) fn places_behind<'a, 'b, K, V>(
-    places: &'b mut &'a mut [Option<(K, V)>],
-) -> &'b mut [Option<(K, V)>]
-    ensures* written { sem 𝓛 (lends_places K.row V.row places.entry result) }
-    ensures value { result.now ≡ places.old.now }
-{
-    places
-}
 
 // A place.
 fn place_of<K, V>(places: &mut [Option<(K, V)>], at: usize) -> &mut Option<(K, V)>

@@ -24,7 +24,7 @@ pub use iter::Iter;
 use iter::Pairs;
 pub use iter_mut::IterMut;
 use iter_mut::{over_pairs, over_places, pairs_of};
-use loan::{places_behind, value_in_tree};
+use loan::value_in_tree;
 pub use range::Range;
 use range::Span;
 use std::collections::BTreeMap;
@@ -178,7 +178,7 @@ impl<'a, K: Ord, V> ManagedMap<'a, K, V> {
         ensures value { option_copied_mut result ≡ value_at K.cmp (pairs self.old) key.now }
     {
         match self {
-            ManagedMap::Borrowed(places) => borrowed::get_mut(places_behind(places), key),
+            ManagedMap::Borrowed(places) => borrowed::get_mut(places, key),
             ManagedMap::Owned(tree) => value_in_tree(tree, key),
         }
     }
@@ -250,7 +250,7 @@ impl<'a, K: Ord, V> ManagedMap<'a, K, V> {
         ensures rest { pairs_to_write result ≡ pairs self.old }
     {
         match self {
-            ManagedMap::Borrowed(places) => over_places(places_behind(places)),
+            ManagedMap::Borrowed(places) => over_places(places),
             ManagedMap::Owned(tree) => over_pairs(pairs_of(tree)),
         }
     }

@@ -1,5 +1,5 @@
 use Rattle.std.proofs.Common.{refl, sym, ap, ◌∙◌}
-use Rattle.std.specs.Option.{option_copied_mut, IfSome}
+use Rattle.std.specs.Option.{option_copied_mut}
 use Rattle.managed.proofs.map.update.one_in_tree.Goals as goal
 
 pub returns-in-Some-clause-written : goal.returns-in-Some-clause-written
