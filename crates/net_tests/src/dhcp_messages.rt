@@ -1,9 +1,10 @@
-//! Messages of servers, made by hand with the options in the order in which dnsmasq, ISC dhcpd and busybox's udhcpd write
-//! them, and padded to 300 bytes as they do.
+//! Messages of servers, made by hand with the options in the order in which dnsmasq, ISC dhcpd and busybox's
+//! udhcpd write them, and padded to 300 bytes as they do.
 use net_wire::{DhcpMessageType, DhcpRepr, Ipv4Address};
 use wire_base::number::append;
 
-/// What lies in the server's name, where options may be too (RFC 2132, section 9.3), the options, and what they say.
+/// What lies in the server's name, where options may be too (RFC 2132, section 9.3), the options, and what
+/// they say.
 struct Example {
     server_name: &'static [u8],
     options: &'static [u8],

@@ -1,5 +1,5 @@
-//! Messages, frames, captures, layers and queries against values from outside: the tests of `net_wire`, `ipsec_wire`,
-//! `phy_layers` and `dns_client`.
+//! Messages, frames, captures, layers and queries against values from outside: the tests of `net_wire`,
+//! `ipsec_wire`, `phy_layers` and `dns_client`.
 #![tactic(auto)]
 
 #[cfg(test)]

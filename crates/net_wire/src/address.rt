@@ -78,7 +78,8 @@ impl IpAddress {
     ghost use Rattle.std.specs.Prelude.{◌≡◌};
     ghost use Rattle.net_wire.specs.IpAddress.{is_unspecified};
 
-    /// Whether this is no station's address: 0.0.0.0 (RFC 1122, section 3.2.1.3) or `::` (RFC 4291, section 2.5.2).
+    /// Whether this is no station's address: 0.0.0.0 (RFC 1122, section 3.2.1.3) or `::` (RFC 4291, section
+    /// 2.5.2).
     pub fn is_unspecified(&self) -> bool
         ensures { result ≡ is_unspecified self.now }
     {

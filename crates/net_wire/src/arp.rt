@@ -94,9 +94,9 @@ fn is_from_host(arp: &ArpRepr) -> bool
         && arp.source_protocol_addr.is_unicast()
 }
 
-/// The ARP packet that counts for a station: a request or a reply of one station with the address of one host,
-/// in a frame to the station or to a group. Bytes behind the packet are not looked at, nor is the source of the
-/// frame.
+/// The ARP packet that counts for a station: a request or a reply of one station with the address of one
+/// host, in a frame to the station or to a group. Bytes behind the packet are not looked at, nor is the
+/// source of the frame.
 pub fn arp_of(frame: &[u8], hardware: EthernetAddress) -> Option<ArpRepr>
     ensures { result ≡ arriving_arp hardware frame.now }
 {

@@ -134,9 +134,9 @@ fn has_packet_for(frame: &[u8], hardware: EthernetAddress) -> bool
     frame.len() >= 14 && read_be16(frame, 12) == 0x0800 && is_for(frame, hardware)
 }
 
-/// The UDP datagram that a frame carries to a station, if it carries one: in an untagged frame to the station or
-/// to a group, an IPv4 packet that is all there, from one host, with a right header sum and no fragment, and UDP
-/// right behind its header, with a right sum or none. Bytes behind the packet are not looked at.
+/// The UDP datagram that a frame carries to a station, if it carries one: in an untagged frame to the station
+/// or to a group, an IPv4 packet that is all there, from one host, with a right header sum and no fragment,
+/// and UDP right behind its header, with a right sum or none. Bytes behind the packet are not looked at.
 pub fn datagram_of(frame: &[u8], hardware: EthernetAddress) -> Option<Datagram<'_>>
     ensures { option_map datagram_value result ≡ arriving_datagram hardware frame.entry.now }
 {

@@ -49,15 +49,16 @@ pub fn sent_frames_arrive()
     ensures { SentFramesArrive }
 {}
 
-/// A DHCP message that was written is read again, but for the options of the caller, which read as nothing. Its
-/// numbers and addresses are as wide as their fields, its type has a name or a number without one, its request list
-/// is not empty, its name servers are one to three single hosts, and no option of the caller is of a kind that is
-/// read.
+/// A DHCP message that was written is read again, but for the options of the caller, which read as nothing.
+/// Its numbers and addresses are as wide as their fields, its type has a name or a number without one, its
+/// request list is not empty, its name servers are one to three single hosts, and no option of the caller is
+/// of a kind that is read.
 pub fn messages_are_read()
     ensures { ReadsWritten }
 {}
 
-/// A frame that is sent with an ARP packet of one host counts at each station that takes the frame, whatever follows.
+/// A frame that is sent with an ARP packet of one host counts at each station that takes the frame, whatever
+/// follows.
 pub fn sent_arp_counts()
     ensures { SentArpCounts }
 {}

@@ -9,7 +9,7 @@ use Rattle.phy_layers.specs.declared.fault_rule.Fate.TheVariants.{Dropped, Whole
 use Rattle.phy_layers.specs.declared.fault_rule.FaultOutcome.{FaultOutcome}
 use Rattle.phy_layers.specs.declared.fault_layer.FaultLayer.{FaultLayer}
 use Rattle.phy_layers.specs.FaultRule.{fault_outcome, frame_after}
-use Rattle.phy_layers.specs.MemoryState.{counted}
+use Rattle.phy_layers.specs.Calls.{counted}
 
 -- the layer before any frame: nothing is disturbed, and nothing was dropped
 abbrev pub fresh_layer : ℕ → FaultLayer

@@ -2,6 +2,8 @@ pub mod PcapBytes
 pub mod PcapLinkType
 pub mod Sink
 pub mod WriterState
+pub mod Calls
+pub mod MemorySink
 pub mod Device
 pub mod FaultRule
 pub mod MemoryState

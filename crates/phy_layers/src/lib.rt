@@ -7,6 +7,7 @@ pub mod capabilities;
 pub mod capture_mode;
 pub mod conversion;
 pub mod device;
+pub mod failing_calls;
 pub mod fault_injector;
 pub mod fault_layer;
 pub mod fault_rule;
@@ -26,6 +27,7 @@ pub use capabilities::{DeviceCapabilities, DeviceError, Medium, PacketMeta, Trac
 pub use capture_mode::PcapMode;
 pub use conversion::convert;
 pub use device::Device;
+pub use failing_calls::FailingCalls;
 pub use fault_injector::FaultInjector;
 pub use fault_layer::FaultLayer;
 pub use fault_rule::{
@@ -37,6 +39,6 @@ pub use fuzzer::Fuzzer;
 pub use memory_device::MemoryDevice;
 pub use pcap::{PcapLinkType, PcapSink};
 pub use pcap_writer::{PcapRefused, PcapWriter};
-pub use sinks::{SureSink, WriteSink};
+pub use sinks::{MemorySink, SureSink, WriteSink};
 pub use tracer::Tracer;
 pub use tracer_packet::TracerPacket;

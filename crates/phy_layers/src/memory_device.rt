@@ -1,9 +1,9 @@
 //! A device in memory: its frames are given, and what it sends is kept.
 ghost use Rattle.std.specs.Prelude.{◌≡◌, ◌^◌, ◌<◌, ◌≤◌, [], ◌∷◌, ◌++◌, length, take, All, true, false, OnOk, OnErr, IfErr, IfSome, IfNone};
-ghost use Rattle.phy_layers.specs.MemoryState.{counted, fails_next};
+ghost use Rattle.phy_layers.specs.Calls.{no_calls};
 
 use crate::capabilities::{DeviceCapabilities, DeviceError, Medium, PacketMeta};
-use crate::{Device, FrameBytes};
+use crate::{Device, FailingCalls, FrameBytes};
 use net_wire::Instant;
 use std::alloc::Global;
 use std::marker::Model;
@@ -18,9 +18,7 @@ pub struct MemoryDevice {
     /// The place of the next one.
     next: usize,
     sent: Vec<FrameBytes>,
-    fails: Vec<u64>,
-    calls: u64,
-    faults: u64,
+    calls: FailingCalls,
 }
 
 impl Model for MemoryDevice {
@@ -34,9 +32,7 @@ impl Model for MemoryDevice {
       mtu = device.mtu;
       waiting = drop device.next device.arriving.items;
       sent = device.sent.items;
-      fails = device.fails.items;
       calls = device.calls;
-      faults = device.faults;
     } };
 
     ghost invariant = { λ device. (device.mtu < 2 ^ 32)
@@ -60,9 +56,7 @@ impl MemoryDevice {
           mtu = mtu;
           waiting = arriving.items;
           sent = [];
-          fails = fails.items;
-          calls = 0;
-          faults = 0;
+          calls = no_calls fails.items;
         } }
     {
         MemoryDevice {
@@ -71,9 +65,7 @@ impl MemoryDevice {
             arriving,
             next: 0,
             sent: Vec::new(alloc),
-            fails,
-            calls: 0,
-            faults: 0,
+            calls: FailingCalls::new(fails),
         }
     }
 
@@ -82,22 +74,6 @@ impl MemoryDevice {
         ensures value { result.now ≡ self.now.sent }
     {
         self.sent.as_slice()
-    }
-
-    /// Counts a call, and the fault where it fails; answers whether it does.
-    fn fails_this_call(&mut self) -> bool
-        ensures value { result ≡ fails_next self.old }
-        ensures works { (result ≡ false) → self.new ≡ record self.old { calls = counted self.old.calls } }
-        ensures fails { (result ≡ true) → self.new
-            ≡ record self.old { calls = counted self.old.calls; faults = counted self.old.faults } }
-        ensures later { self.old.faults ≤ self.new.faults }
-    {
-        self.calls = self.calls.saturating_add(1);
-        let fails = self.fails.contains(&self.calls);
-        if fails {
-            self.faults = self.faults.saturating_add(1);
-        }
-        fails
     }
 }
 
@@ -146,7 +122,7 @@ impl Device for MemoryDevice {
 
     ghost sent = { λ device. Some device.sent };
 
-    ghost faults = { λ device. device.faults };
+    ghost faults = { λ device. device.calls.faults };
 
     ghost drops = { λ _. 0 };
 
@@ -182,7 +158,7 @@ impl Device for MemoryDevice {
         into: &mut [u8],
     ) -> Result<Option<(usize, PacketMeta)>, DeviceError> {
         let _ = now;
-        if self.fails_this_call() {
+        if self.calls.next_fails() {
             return Err(DeviceError::Fault);
         }
         match self.take_next(into) {
@@ -198,7 +174,7 @@ impl Device for MemoryDevice {
         frame: &[u8],
     ) -> Result<(), DeviceError> {
         let _ = (now, meta);
-        if self.fails_this_call() {
+        if self.calls.next_fails() {
             return Err(DeviceError::Fault);
         }
         self.keep(frame)

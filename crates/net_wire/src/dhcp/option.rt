@@ -1,5 +1,5 @@
-//! Options of a DHCP message as bytes: kind, length, value (RFC 2132, section 2). Each writer leaves out an option that
-//! is not there, and answers where the next one begins.
+//! Options of a DHCP message as bytes: kind, length, value (RFC 2132, section 2). Each writer leaves out an
+//! option that is not there, and answers where the next one begins.
 ghost use Rattle.std.specs.Prelude.{◌≡◌, ℕ, ◌+◌, ◌≤◌, ◌++◌, ◌*◌, length, take, map, IfSome, Some};
 ghost use Rattle.std.specs.List.{AllByRecursion, flat_map};
 ghost use Rattle.std.specs.Option.{option_map};
@@ -80,7 +80,8 @@ pub(super) fn append_identifier(
 
 pub(super) fn append_bytes(into: &mut [u8], at: usize, kind: u8, bytes: Option<&[u8]>) -> usize
     requires len { IfSome bytes (λ bytes. length bytes.now ≤ 255) }
-    requires room { at + length (bytes_option kind (option_map (λ bytes. bytes.now) bytes)) ≤ length into.old }
+    requires room { at + length (bytes_option kind (option_map (λ bytes. bytes.now) bytes))
+        ≤ length into.old }
     ensures end { result ≡ at + length (bytes_option kind (option_map (λ bytes. bytes.now) bytes.entry)) }
     ensures front { take result into.new
         ≡ take at into.old ++ bytes_option kind (option_map (λ bytes. bytes.now) bytes.entry) }
@@ -96,7 +97,8 @@ pub(super) fn append_additional(into: &mut [u8], at: usize, options: &[DhcpOptio
     requires writable { AllByRecursion IsWritableOption (map option_value options.now) }
     requires room { at + length (additional_bytes (map option_value options.now)) ≤ length into.old }
     ensures end { result ≡ at + length (additional_bytes (map option_value options.now)) }
-    ensures front { take result into.new ≡ take at into.old ++ additional_bytes (map option_value options.now) }
+    ensures front { take result into.new
+        ≡ take at into.old ++ additional_bytes (map option_value options.now) }
 {
     let mut end = at;
     for option in options {
@@ -110,8 +112,10 @@ pub(super) fn append_servers(
     at: usize,
     servers: &Option<ArrayVec<Ipv4Address, 3>>,
 ) -> usize
-    requires { at + length (addresses_option 6 (option_map (λ servers. servers.items) servers.now)) ≤ length into.old }
-    ensures end { result ≡ at + length (addresses_option 6 (option_map (λ servers. servers.items) servers.now)) }
+    requires { at + length (addresses_option 6 (option_map (λ servers. servers.items) servers.now))
+        ≤ length into.old }
+    ensures end { result
+        ≡ at + length (addresses_option 6 (option_map (λ servers. servers.items) servers.now)) }
     ensures front { take result into.new
         ≡ take at into.old ++ addresses_option 6 (option_map (λ servers. servers.items) servers.now) }
 {

@@ -43,7 +43,8 @@ pub(crate) struct Found<'a> {
 /// The first option, and what is behind it; `None` where the options end.
 fn first_item<'a>(bytes: &'a [u8]) -> Option<(Item<'a>, &'a [u8])>
     ensures { MatchOption result (items_of bytes.entry.now ≡ [])
-        (λ first. (items_of bytes.entry.now ≡ item_of first.0 ∷ items_of first.1.now) × (length first.1.now < length bytes.entry.now)) }
+        (λ first. (items_of bytes.entry.now ≡ item_of first.0 ∷ items_of first.1.now)
+        × (length first.1.now < length bytes.entry.now)) }
 {
     let mut rest = bytes;
     while let Some((kind, after)) = rest.split_first() {
@@ -59,7 +60,8 @@ fn first_item<'a>(bytes: &'a [u8]) -> Option<(Item<'a>, &'a [u8])>
 fn item_behind<'a>(kind: u8, bytes: &'a [u8]) -> Option<(Item<'a>, &'a [u8])>
     requires { 0 < kind }
     ensures { MatchOption result (items_of (kind ∷ bytes.entry.now) ≡ [])
-        (λ first. (items_of (kind ∷ bytes.entry.now) ≡ item_of first.0 ∷ items_of first.1.now) × (length first.1.now < length bytes.entry.now)) }
+        (λ first. (items_of (kind ∷ bytes.entry.now) ≡ item_of first.0 ∷ items_of first.1.now)
+        × (length first.1.now < length bytes.entry.now)) }
 {
     if kind == OPT_END {
         return None;

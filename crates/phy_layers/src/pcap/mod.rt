@@ -8,7 +8,7 @@ ghost use Rattle.phy_layers.specs.PcapLinkType.{link_type_number};
 
 pub mod link_type;
 
-use crate::{ByteSink, SinkError, SureSink, WriteSink};
+use crate::{ByteSink, MemorySink, SinkError, SureSink, WriteSink};
 pub use link_type::PcapLinkType;
 use net_wire::Instant;
 use std::io::Write;
@@ -80,6 +80,8 @@ pub trait PcapSink: ByteSink + Sized {
         SNAP_LEN as u32
     }
 }
+
+impl PcapSink for MemorySink {}
 
 impl PcapSink for SureSink {}
 
