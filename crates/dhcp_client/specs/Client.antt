@@ -7,8 +7,8 @@ use Rattle.dhcp_client.specs.declared.state.ClientState.TheVariants.{Discovering
 use Rattle.dhcp_client.specs.declared.state.Lease.{Lease}
 use Rattle.dhcp_client.specs.Config.{ClientSettings}
 
--- the state; the name servers of the lease; whether the configuration changed since the last event; the id of the message
--- sent last; the bytes of its buffer for received packets, if it was given one; what it was told
+-- the state; the name servers of the lease; whether the configuration changed since the last event; the id of
+-- the message sent last; the bytes of its buffer for received packets, if it was given one; what it was told
 pub record Client : Type 0 where
   pub state : ClientState
   pub dns_servers : List Ipv4Address
@@ -30,7 +30,9 @@ new_client settings = record {
 
 -- when a lease is renewed next, and at most its end
 abbrev pub lease_poll_at : Lease → ℤ
-lease_poll_at lease = int_min (if lease.rebinding then lease.rebind_at else int_min lease.renew_at lease.rebind_at) lease.expires_at
+lease_poll_at lease =
+    int_min (if lease.rebinding then lease.rebind_at else int_min lease.renew_at lease.rebind_at)
+    lease.expires_at
 
 -- when a client in this state sends next, or begins anew
 abbrev pub poll_at_of : ClientState → ℤ
@@ -43,7 +45,11 @@ has_lease (Discovering retry_at) = false
 has_lease (Requesting retry_at retry server requested_ip) = false
 has_lease (Renewing lease) = true
 
--- A client that begins anew: it discovers at moment 0, and the id of the message sent last stays. A lease that is lost
--- changes the configuration.
+-- A client that begins anew: it discovers at moment 0, and the id of the message sent last stays. A lease
+-- that is lost changes the configuration.
 abbrev pub after_reset : Client → Client
-after_reset client = record client { state = Discovering (pos 0); dns_servers = []; changed = client.changed || has_lease client.state }
+after_reset client = record client {
+  state = Discovering (pos 0);
+  dns_servers = [];
+  changed = client.changed || has_lease client.state;
+}

@@ -7,8 +7,8 @@ use Rattle.dhcp_client.specs.declared.config.ClientConfig.{ClientConfig}
 use Rattle.dhcp_client.specs.declared.retry.RetryConfig.{RetryConfig}
 use Rattle.dhcp_client.specs.Retry.{default_retry}
 
--- timeouts; ports; the greatest lease in microseconds; whether refusals are ignored; what is asked of servers (RFC 2132,
--- section 9.8); the caller's options
+-- timeouts; ports; the greatest lease in microseconds; whether refusals are ignored; what is asked of servers
+-- (RFC 2132, section 9.8); the caller's options
 pub record ClientSettings : Type 0 where
   pub retry : RetryConfig
   pub server_port : ℕ
@@ -45,7 +45,8 @@ default_settings = record {
 abbrev pub IsRequestList : List ℕ → Type 0
 IsRequestList parameters = (0 < length parameters) × (length parameters ≤ 255)
 
--- a client's messages can be written: the longest is a request, of 271 bytes, the request list and the caller's options
+-- a client's messages can be written: the longest is a request, of 271 bytes, the request list and the
+-- caller's options
 pub record AreSettingsWritable (settings : ClientSettings) (ip_mtu : ℕ) : Type 0 where
   pub mtu : 68 ≤ ip_mtu
   pub options : AllByRecursion IsWritableOption settings.options

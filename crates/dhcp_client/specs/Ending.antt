@@ -35,8 +35,8 @@ MovesDue now Restart = ⊤
 MovesDue now (Send outgoing before after) = now <ℤ poll_at_of after
 
 abbrev pub MessagesMoveDue : Type 0
-MessagesMoveDue = (client : Client) (cx : Context) (word : ℕ) → HasTimeouts client.settings.retry → cx.now <ℤ last_instant
-    → MovesDue cx.now (plan_for client cx word)
+MessagesMoveDue = (client : Client) (cx : Context) (word : ℕ) → HasTimeouts client.settings.retry
+    → cx.now <ℤ last_instant → MovesDue cx.now (plan_for client cx word)
 
 -- both states that a message may leave have their dues in order
 abbrev pub KeepsOrder : Plan → Type 0
@@ -48,13 +48,14 @@ KeepsOrder (Send outgoing before after) = IsOrdered before × IsOrdered after
 pub record DuesStayOrdered : Type 0 where
   pub at_first : (settings : ClientSettings) → IsOrdered (new_client settings).state
   pub reset : (client : Client) → IsOrdered (after_reset client).state
-  pub heard : (client : Client) (cx : Context) (source : Ipv4Address) (bytes : List ℕ) (message : Option Message)
-      → IsOrdered client.state → IsOrdered (after_message client cx source bytes message).state
+  pub heard : (client : Client) (cx : Context) (source : Ipv4Address) (bytes : List ℕ)
+      (message : Option Message) → IsOrdered client.state
+      → IsOrdered (after_message client cx source bytes message).state
   pub dispatched : (client : Client) (cx : Context) (word : ℕ) → cx.now ≤ℤ last_instant
       → IsOrdered client.state → KeepsOrder (plan_for client cx word)
 
--- How many dispatches a client may have before it: none before its due, one message where it discovers, and else one more,
--- since it may begin anew first.
+-- How many dispatches a client may have before it: none before its due, one message where it discovers, and
+-- else one more, since it may begin anew first.
 abbrev pub calls_of : ClientState → ℕ
 calls_of (Discovering retry_at) = 1
 calls_of (Requesting retry_at retry server requested_ip) = 2
@@ -71,5 +72,6 @@ LeavesFewer now state (Send outgoing before after) = calls_left now after < call
 
 -- each dispatch of a due client that is not refused leaves fewer
 abbrev pub DispatchesEnd : Type 0
-DispatchesEnd = (client : Client) (cx : Context) (word : ℕ) → HasTimeouts client.settings.retry → cx.now <ℤ last_instant
-    → IsOrdered client.state → poll_at_of client.state ≤ℤ cx.now → LeavesFewer cx.now client.state (plan_for client cx word)
+DispatchesEnd = (client : Client) (cx : Context) (word : ℕ) → HasTimeouts client.settings.retry
+    → cx.now <ℤ last_instant → IsOrdered client.state → poll_at_of client.state ≤ℤ cx.now
+    → LeavesFewer cx.now client.state (plan_for client cx word)

@@ -17,7 +17,8 @@ pub record Configuration : Type 0 where
   pub dns_servers : List Ipv4Address
   pub packet : Option (List ℕ)
 
--- what a lease with these name servers gives, beside the whole buffer for received packets; none without a lease
+-- what a lease with these name servers gives, beside the whole buffer for received packets; none without a
+-- lease
 abbrev pub configuration_in : ClientState → List Ipv4Address → Option (List ℕ) → Option Configuration
 configuration_in (Discovering retry_at) servers packet = None
 configuration_in (Requesting retry_at retry server requested_ip) servers packet = None

@@ -1,12 +1,11 @@
--- Closed examples of what a lease's times are, which messages count, and what is planned when.
-use Rattle.std.specs.Prelude.{◌≡◌, ℕ, ◌-◌, ◌^◌, pos, false, true, [], ◌∷◌, Some, None, replicate}
+-- Closed examples of what a mask is, which messages count, and what is planned when.
+use Rattle.std.specs.Prelude.{◌≡◌, ℕ, pos, false, true, [], ◌∷◌, Some, None, replicate}
 use Rattle.net_wire.specs.declared.address.EthernetAddress.{EthernetAddress}
 use Rattle.net_wire.specs.declared.address.Ipv4Address.{Ipv4Address}
 use Rattle.net_wire.specs.declared.dhcp.DhcpMessageType.{DhcpMessageType}
 use Rattle.net_wire.specs.declared.dhcp.DhcpMessageType.TheVariants.{Offer, Ack, Nak}
 use Rattle.net_wire.specs.declared.error.Context.{Context}
 use Rattle.net_wire.specs.DhcpMessage.{Message}
-use Rattle.net_wire.specs.Time.{instant_after}
 use Rattle.dhcp_client.specs.declared.state.ClientState.{ClientState}
 use Rattle.dhcp_client.specs.declared.state.ClientState.TheVariants.{Discovering, Requesting, Renewing}
 use Rattle.dhcp_client.specs.declared.state.Lease.{Lease}
@@ -17,37 +16,6 @@ use Rattle.dhcp_client.specs.Heard.{prefix_of, server_with, cidr_with}
 use Rattle.dhcp_client.specs.Hearing.{after_message, laid_over}
 use Rattle.dhcp_client.specs.Messages.{client_message, unspecified, limited_broadcast}
 use Rattle.dhcp_client.specs.Plan.{Plan, Wait, Restart, Send, plan_in}
-use Rattle.dhcp_client.specs.Times.{spans, spans_with, lease_span, request_span, renew_span, rebind_span}
-
--- In microseconds, of a lease of 1000 s: both times in order; one alone; none; and those that are not in order or not before
--- the end. Then 15 microseconds, where 7.5 and 13.125 are cut; a lease without a time, with one, and with a cap.
-pub record TimesByExample : Type 0 where
-  pub both : spans 1000000000 (Some 300) (Some 700) ≡ spans_with 300000000 700000000 1000000000
-  pub renewal : spans 1000000000 (Some 300) None ≡ spans_with 300000000 825000000 1000000000
-  pub rebinding : spans 1000000000 None (Some 700) ≡ spans_with 500000000 700000000 1000000000
-  pub early : spans 1000000000 None (Some 400) ≡ spans_with 400000000 400000000 1000000000
-  pub neither : spans 1000000000 None None ≡ spans_with 500000000 875000000 1000000000
-  pub at_end : spans 1000000000 (Some 300) (Some 1000) ≡ spans_with 500000000 875000000 1000000000
-  pub equal : spans 1000000000 (Some 700) (Some 700) ≡ spans_with 500000000 875000000 1000000000
-  pub late : spans 1000000000 (Some 1000) None ≡ spans_with 500000000 875000000 1000000000
-  pub cut : spans 15 None None ≡ spans_with 7 13 15
-  pub absent : lease_span None None ≡ 120000000
-  pub given : lease_span None (Some 1000) ≡ 1000000000
-  pub capped : lease_span (Some 5) (Some 1000) ≡ 5
-
--- the steps between messages, where 5 s are the first, 60 s the least and 100 s the greatest time; and the two ends of time
-pub record StepsByExample : Type 0 where
-  pub first : request_span 5000000 0 ≡ 5000000
-  pub second : request_span 5000000 1 ≡ 5000000
-  pub third : request_span 5000000 2 ≡ 10000000
-  pub fifth : request_span 5000000 4 ≡ 20000000
-  pub longest : request_span (2 ^ 63) 2 ≡ 2 ^ 64 - 1
-  pub half : renew_span 60000000 100000000 150000000 ≡ 75000000
-  pub least : renew_span 60000000 100000000 100000000 ≡ 60000000
-  pub left : renew_span 60000000 100000000 1 ≡ 1
-  pub greatest : renew_span 60000000 100000000 400000000 ≡ 100000000
-  pub past_end : rebind_span 60000000 100000000 2500000 ≡ 60000000
-  pub last : instant_after (pos (2 ^ 63 - 5)) 10 ≡ pos (2 ^ 63 - 1)
 
 -- 192.168.1.HOST, and the masks 255.255.255.0, 0.0.0.0 and 255.0.255.0
 abbrev pub host : ℕ → Ipv4Address
@@ -112,19 +80,26 @@ lease_from renew rebind end = record {
 }
 
 pub record MessagesByExample : Type 0 where
-  pub offer : hearing (discovering obeying) 1 (reply Offer 1 good) ≡ Requesting (pos 7) 0 leasing_server (host 42)
+  pub offer : hearing (discovering obeying) 1 (reply Offer 1 good)
+      ≡ Requesting (pos 7) 0 leasing_server (host 42)
   pub other_id : hearing (discovering obeying) 1 (reply Offer 2 good) ≡ Discovering (pos 0)
-  pub anonymous : hearing (discovering obeying) 1 (record (reply Offer 1 good) { server_identifier = None }) ≡ Discovering (pos 0)
+  pub anonymous : hearing (discovering obeying) 1 (record (reply Offer 1 good) { server_identifier = None })
+      ≡ Discovering (pos 0)
   pub foreign : hearing (discovering obeying) 1
-      (record (reply Offer 1 good) { client_hardware_address = record { 0 = replicate 6 3 } }) ≡ Discovering (pos 0)
+      (record (reply Offer 1 good) { client_hardware_address = record { 0 = replicate 6 3 } })
+      ≡ Discovering (pos 0)
   pub second_offer : hearing (requesting obeying) 2 (record (reply Offer 1 good) { your_ip = host 43 })
       ≡ Requesting (pos 0) 0 leasing_server (host 42)
-  pub ack : hearing (requesting obeying) 1 (reply Ack 1 good) ≡ Renewing (lease_from 500000007 875000007 1000000007)
-  pub other_server : hearing (requesting obeying) 9 (reply Ack 1 good) ≡ Renewing (lease_from 500000007 875000007 1000000007)
-  pub hole : hearing (requesting obeying) 1 (reply Ack 1 (mask_with 0 255 0)) ≡ Requesting (pos 0) 0 leasing_server (host 42)
+  pub ack : hearing (requesting obeying) 1 (reply Ack 1 good)
+      ≡ Renewing (lease_from 500000007 875000007 1000000007)
+  pub other_server : hearing (requesting obeying) 9 (reply Ack 1 good)
+      ≡ Renewing (lease_from 500000007 875000007 1000000007)
+  pub hole : hearing (requesting obeying) 1 (reply Ack 1 (mask_with 0 255 0))
+      ≡ Requesting (pos 0) 0 leasing_server (host 42)
   pub early_ack : hearing (discovering obeying) 1 (reply Ack 1 good) ≡ Discovering (pos 0)
   pub refusal : hearing (requesting obeying) 1 (reply Nak 1 good) ≡ Discovering (pos 0)
-  pub ignored : hearing (requesting ignoring) 1 (reply Nak 1 good) ≡ Requesting (pos 0) 0 leasing_server (host 42)
+  pub ignored : hearing (requesting ignoring) 1 (reply Nak 1 good)
+      ≡ Requesting (pos 0) 0 leasing_server (host 42)
   pub kept : laid_over (1 ∷ 2 ∷ []) (7 ∷ 8 ∷ 9 ∷ []) ≡ 1 ∷ 2 ∷ 9 ∷ []
   pub no_room : laid_over (1 ∷ 2 ∷ []) (7 ∷ []) ≡ 7 ∷ []
 

@@ -32,7 +32,8 @@ pub data Heard : Type 0 where
   AnAck : Granted → Heard
   ARefusal : Heard
 
--- the masks of ones followed by zeros, from none to 32 ones (RFC 950, section 2.1), and how many ones a mask has
+-- the masks of ones followed by zeros, from none to 32 ones (RFC 950, section 2.1), and how many ones a mask
+-- has
 abbrev pub mask_number : ℕ → ℕ
 mask_number ones = 2 ^ 32 - 2 ^ (32 - ones)
 
@@ -58,7 +59,8 @@ cidr_with address prefix_len = record { address = address; prefix_len = prefix_l
 
 abbrev pub times_in : ClientSettings → Message → Spans
 times_in settings message =
-    spans (lease_span settings.max_lease message.lease_duration) message.renew_duration message.rebind_duration
+    spans (lease_span settings.max_lease message.lease_duration)
+    message.renew_duration message.rebind_duration
 
 abbrev pub granted_by : ClientSettings → Message → ℕ → Granted
 granted_by settings message prefix_len = record {
@@ -68,8 +70,8 @@ granted_by settings message prefix_len = record {
   times = times_in settings message;
 }
 
--- an offer and an acknowledgement have the address of one host, and an acknowledgement a mask of ones followed
--- by zeros
+-- an offer and an acknowledgement have the address of one host, and an acknowledgement a mask of ones
+-- followed by zeros
 abbrev pub offer_heard : ServerInfo → Ipv4Address → Heard
 offer_heard server address = if is_unicast address then AnOffer server address else Nothing
 

@@ -29,7 +29,8 @@ same_cidr one other = same_address one.address other.address && (one.prefix_len 
 -- the configuration of a lease is that which is granted
 abbrev pub is_same_config : Lease → List Ipv4Address → Granted → Bool
 is_same_config lease servers granted =
-    same_cidr lease.address granted.address && same_router lease.router granted.router && pointwise same_address servers granted.dns_servers
+    same_cidr lease.address granted.address && same_router lease.router granted.router
+    && pointwise same_address servers granted.dns_servers
 
 -- with a lease from a moment on
 abbrev pub with_lease : Client → ServerInfo → Granted → ℤ → Bool → Client
@@ -41,12 +42,13 @@ with_lease client server granted now changed = record client {
 
 -- an offer counts for a client that discovers: it requests the address at once
 abbrev pub after_offer : ClientState → ServerInfo → Ipv4Address → ℤ → Client → Client
-after_offer (Discovering retry_at) server address now client = record client { state = Requesting now 0 server address }
+after_offer (Discovering retry_at) server address now client =
+    record client { state = Requesting now 0 server address }
 after_offer (Requesting retry_at retry old requested_ip) server address now client = client
 after_offer (Renewing lease) server address now client = client
 
--- An acknowledgement counts for one that requests or renews; its server stays that of the offer. A renewed lease changes
--- the configuration where that differs, or where packets are kept.
+-- An acknowledgement counts for one that requests or renews; its server stays that of the offer. A renewed
+-- lease changes the configuration where that differs, or where packets are kept.
 abbrev pub after_ack : ClientState → Granted → ℤ → Client → Client
 after_ack (Discovering retry_at) granted now client = client
 after_ack (Requesting retry_at retry server requested_ip) granted now client =
@@ -69,7 +71,8 @@ after_heard ARefusal now client = after_refusal client.state client
 
 -- bytes at the front of a buffer that has room for them, and else the buffer as it was
 abbrev pub laid_over : List ℕ → List ℕ → List ℕ
-laid_over bytes buffer = if nat_le (length bytes) (length buffer) then bytes ++ drop (length bytes) buffer else buffer
+laid_over bytes buffer =
+    if nat_le (length bytes) (length buffer) then bytes ++ drop (length bytes) buffer else buffer
 
 abbrev pub laid_in : List ℕ → Option (List ℕ) → Option (List ℕ)
 laid_in bytes None = None

@@ -13,3 +13,4 @@ pub mod Messages
 pub mod Plan
 pub mod Retry
 pub mod Times
+pub mod TimesExamples

@@ -1,4 +1,5 @@
--- The messages of the client (RFC 2131, section 4.4.1 and table 5), and the datagrams that carry them (section 4.1).
+-- The messages of the client (RFC 2131, section 4.4.1 and table 5), and the datagrams that carry them
+-- (section 4.1).
 use Rattle.std.specs.Prelude.{ℕ, ◌+◌, ◌-◌, false, List, Option, Some, None, length, replicate}
 use Rattle.net_wire.specs.declared.address.EthernetAddress.{EthernetAddress}
 use Rattle.net_wire.specs.declared.address.Ipv4Address.{Ipv4Address}
@@ -28,11 +29,11 @@ unspecified = record { 0 = replicate 4 0 }
 abbrev pub limited_broadcast : Ipv4Address
 limited_broadcast = record { 0 = replicate 4 255 }
 
--- A message of the client: its type, id, the address that it has, its hardware address, the server and the address that
--- it requests, the greatest message size, the request list and the caller's options. The size leaves room for the longest
--- IPv4 header and the UDP header, 60 and 8 bytes.
-abbrev pub client_message : DhcpMessageType → Ipv4Address → Option Ipv4Address → Option Ipv4Address → EthernetAddress → ℕ
-    → List ℕ → List OptionValue → ℕ → Message
+-- A message of the client: its type, id, the address that it has, its hardware address, the server and the
+-- address that it requests, the greatest message size, the request list and the caller's options. The size
+-- leaves room for the longest IPv4 header and the UDP header, 60 and 8 bytes.
+abbrev pub client_message : DhcpMessageType → Ipv4Address → Option Ipv4Address → Option Ipv4Address
+    → EthernetAddress → ℕ → List ℕ → List OptionValue → ℕ → Message
 client_message message_type client_ip server requested hardware_addr ip_mtu parameters options id = record {
   message_type = message_type;
   transaction_id = id;
@@ -62,7 +63,8 @@ abbrev pub discover_message : EthernetAddress → ℕ → List ℕ → List Opti
 discover_message = client_message Discover unspecified None None
 
 -- a request of the address that a server offered
-abbrev pub request_message : Ipv4Address → Ipv4Address → EthernetAddress → ℕ → List ℕ → List OptionValue → ℕ → Message
+abbrev pub request_message : Ipv4Address → Ipv4Address → EthernetAddress → ℕ → List ℕ → List OptionValue → ℕ
+    → Message
 request_message server requested = client_message Request unspecified (Some server) (Some requested)
 
 -- a renewal of an address, which names neither (RFC 2131, section 4.3.2)

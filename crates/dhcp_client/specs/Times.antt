@@ -1,4 +1,5 @@
--- The times of a lease, in microseconds from its acknowledgement (RFC 2131, section 4.4.5), and those between messages.
+-- The times of a lease, in microseconds from its acknowledgement (RFC 2131, section 4.4.5), and those between
+-- messages.
 use Rattle.std.specs.Prelude.{ℕ, ◌+◌, ◌-◌, ◌*◌, ◌/◌, ◌^◌, ◌≤◌, ◌&&◌, Option, Some, None, nat_lt, min, max, if◌then◌else◌}
 use Rattle.net_wire.specs.Time.{saturated}
 
@@ -27,9 +28,9 @@ lease_span cap secs = capped cap (seconds_of secs * 1000000)
 abbrev pub default_spans : ℕ → Spans
 default_spans lease = spans_with (lease / 2) (lease * 7 / 8) lease
 
--- The times that a server gave in seconds, where they are in order: both; the first alone, and then the second is three
--- quarters of the way to the end; the second alone, and then the first is a half of the lease, or the second if that is
--- earlier. Else the default ones.
+-- The times that a server gave in seconds, where they are in order: both; the first alone, and then the
+-- second is three quarters of the way to the end; the second alone, and then the first is a half of the
+-- lease, or the second if that is earlier. Else the default ones.
 abbrev pub spans : ℕ → Option ℕ → Option ℕ → Spans
 spans lease (Some renew) (Some rebind) =
     if nat_lt (renew * 1000000) (rebind * 1000000) && nat_lt (rebind * 1000000) lease
@@ -40,7 +41,9 @@ spans lease (Some renew) None =
     then spans_with (renew * 1000000) (renew * 1000000 + (lease - renew * 1000000) * 3 / 4) lease
     else default_spans lease
 spans lease None (Some rebind) =
-    if nat_lt (rebind * 1000000) lease then spans_with (min (lease / 2) (rebind * 1000000)) (rebind * 1000000) lease else default_spans lease
+    if nat_lt (rebind * 1000000) lease
+    then spans_with (min (lease / 2) (rebind * 1000000)) (rebind * 1000000) lease
+    else default_spans lease
 spans lease None None = default_spans lease
 
 -- renewal, rebinding and end come in this order
@@ -56,8 +59,8 @@ TimesAreOrdered = (lease : ℕ) (renew rebind : Option ℕ) → AreOrdered (span
 abbrev pub request_span : ℕ → ℕ → ℕ
 request_span initial retry = saturated (initial * 2 ^ (retry / 2))
 
--- from a renewal to the next one: half of what is left until T2, at least the least time, and then at most until T2 and at
--- most the greatest time
+-- from a renewal to the next one: half of what is left until T2, at least the least time, and then at most
+-- until T2 and at most the greatest time
 abbrev pub renew_span : ℕ → ℕ → ℕ → ℕ
 renew_span least greatest left = min (min (max least (left / 2)) left) greatest
 

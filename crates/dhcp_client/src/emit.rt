@@ -13,8 +13,8 @@ pub trait DhcpEmit {
     /// What is so between an emitter, and itself after it took a message.
     ghost took: { Self → Self → Outgoing → Type 0 };
 
-    /// What is so between an emitter, and itself after it refused a message, since the hardware address of the next hop
-    /// is not known.
+    /// What is so between an emitter, and itself after it refused a message, since the hardware address of
+    /// the next hop is not known.
     ghost refused: { Self → Self → Outgoing → Type 0 };
 
     /// Sends a message in a UDP datagram in IPv4.

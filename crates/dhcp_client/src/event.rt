@@ -11,7 +11,8 @@ pub struct Config<'a> {
     pub router: Option<Ipv4Address>,
     /// At most three, each the address of one host.
     pub dns_servers: &'a [Ipv4Address],
-    /// The whole buffer for received packets, with the last message that it had room for at its front; `None` without a buffer.
+    /// The whole buffer for received packets, with the last message that it had room for at its front; `None`
+    /// without a buffer.
     pub packet: Option<&'a [u8]>,
 }
 

@@ -1,5 +1,6 @@
 //! Closed examples of the definitions, proved by computing.
-ghost use Rattle.dhcp_client.specs.Examples.{MasksByExample, MessagesByExample, PlansByExample, StepsByExample, TimesByExample};
+ghost use Rattle.dhcp_client.specs.Examples.{MasksByExample, MessagesByExample, PlansByExample};
+ghost use Rattle.dhcp_client.specs.TimesExamples.{StepsByExample, TimesByExample};
 
 /// The four cases of options 58 and 59, cut down to whole microseconds.
 pub fn times_by_example()

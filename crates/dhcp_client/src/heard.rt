@@ -144,7 +144,9 @@ fn both_spans(lease: u64, renew: u64, rebind: u64) -> LeaseSpans
     requires { lease < 2 ^ 53 }
     ensures end { result.end ≡ lease }
     ensures value { spans_value result
-        ≡ (if nat_lt renew rebind && nat_lt rebind lease then spans_with renew rebind lease else default_spans lease) }
+        ≡ (if nat_lt renew rebind && nat_lt rebind lease
+        then spans_with renew rebind lease
+        else default_spans lease) }
 {
     if renew < rebind && rebind < lease {
         LeaseSpans {
@@ -161,7 +163,9 @@ fn renew_spans(lease: u64, renew: u64) -> LeaseSpans
     requires { lease < 2 ^ 53 }
     ensures end { result.end ≡ lease }
     ensures value { spans_value result
-        ≡ (if nat_lt renew lease then spans_with renew (renew + (lease - renew) * 3 / 4) lease else default_spans lease) }
+        ≡ (if nat_lt renew lease
+        then spans_with renew (renew + (lease - renew) * 3 / 4) lease
+        else default_spans lease) }
 {
     if renew < lease {
         LeaseSpans {
@@ -178,7 +182,9 @@ fn rebind_spans(lease: u64, rebind: u64) -> LeaseSpans
     requires { lease < 2 ^ 53 }
     ensures end { result.end ≡ lease }
     ensures value { spans_value result
-        ≡ (if nat_lt rebind lease then spans_with (min (lease / 2) rebind) rebind lease else default_spans lease) }
+        ≡ (if nat_lt rebind lease
+        then spans_with (min (lease / 2) rebind) rebind lease
+        else default_spans lease) }
 {
     if rebind < lease {
         LeaseSpans {
@@ -250,7 +256,8 @@ fn ack(config: &ClientConfig<'_>, message: &DhcpRepr<'_>) -> Heard
 /// What a message of this server says, by its type.
 fn by_type(config: &ClientConfig<'_>, server: ServerInfo, message: &DhcpRepr<'_>) -> Heard
     ensures value { heard_value result
-        ≡ heard_by_type (client_settings config.now) server (message_of message.now) message.now.message_type }
+        ≡ heard_by_type (client_settings config.now) server (message_of message.now)
+        message.now.message_type }
     ensures short { IsShort (heard_value result) }
 {
     match message.message_type {
@@ -297,7 +304,8 @@ pub(crate) fn heard_from(
     message: &DhcpRepr<'_>,
 ) -> Heard
     ensures value { heard_value result
-        ≡ heard_from (client_settings config.now) source (message_of message.now) message.now.server_identifier }
+        ≡ heard_from (client_settings config.now) source (message_of message.now)
+        message.now.server_identifier }
     ensures short { IsShort (heard_value result) }
 {
     match message.server_identifier {

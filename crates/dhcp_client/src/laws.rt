@@ -19,13 +19,14 @@ pub fn messages_move_due()
     ensures { MessagesMoveDue }
 {}
 
-/// While there is a lease, every call up to the last instant leaves its renewal due not after its rebinding due.
+/// While there is a lease, every call up to the last instant leaves its renewal due not after its rebinding
+/// due.
 pub fn dues_stay_ordered()
     ensures { DuesStayOrdered }
 {}
 
-/// A host that dispatches while its client is due comes to an end: each call leaves fewer, of two at most, where
-/// each timeout is a microsecond or more, the dues are in order, and it is before the last instant.
+/// A host that dispatches while its client is due comes to an end: each call leaves fewer, of two at most,
+/// where each timeout is a microsecond or more, the dues are in order, and it is before the last instant.
 pub fn dispatches_end()
     ensures { DispatchesEnd }
 {}

@@ -22,6 +22,3 @@ pub use event::{Config, Event};
 pub use retry::RetryConfig;
 pub use socket::Socket;
 pub use state::{ClientState, Lease, ServerInfo};
-
-#[cfg(test)]
-mod tests;

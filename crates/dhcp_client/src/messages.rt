@@ -46,9 +46,11 @@ pub(crate) fn client_message<'a>(
     requires mtu { 68 ≤ naming.ip_mtu }
     requires request_list { IsRequestList parameters.now }
     requires options { AllByRecursion IsWritableOption (map option_value options.now) }
-    requires size { 259 + length (address_option 54 naming.server_identifier) + length (address_option 50 naming.requested_ip)
+    requires size { 259 + length (address_option 54 naming.server_identifier)
+        + length (address_option 50 naming.requested_ip)
         + length parameters.now + length (additional_bytes (map option_value options.now)) ≤ 65507 }
-    ensures value { message_of result ≡ client_message naming.message_type naming.client_ip naming.server_identifier
+    ensures value { message_of result
+        ≡ client_message naming.message_type naming.client_ip naming.server_identifier
         naming.requested_ip naming.hardware_addr naming.ip_mtu parameters.entry.now
         (map option_value options.entry.now) naming.transaction_id }
     ensures writable { IsWritable (message_of result) }
@@ -87,7 +89,8 @@ pub(crate) fn outgoing<'a>(
     dhcp: DhcpRepr<'a>,
 ) -> OutgoingMessage<'a>
     requires { IsWritable (message_of dhcp) }
-    ensures value { outgoing_value result ≡ outgoing_between src_addr dst_addr client_port server_port (message_of dhcp.entry) }
+    ensures value { outgoing_value result
+        ≡ outgoing_between src_addr dst_addr client_port server_port (message_of dhcp.entry) }
     ensures udp { result.ip.next_header ≡ Udp }
 {
     OutgoingMessage {

@@ -60,7 +60,8 @@ impl<'a> Socket<'a> {
     ) -> Plan<'a>
         requires { AreSettingsWritable self.now.settings cx.now.ip_mtu }
         ensures value { plan_value result
-            ≡ request_plan retry_at retry server requested_ip self.now.settings self.now.transaction_id cx.entry.now }
+            ≡ request_plan retry_at retry server requested_ip self.now.settings
+            self.now.transaction_id cx.entry.now }
         ensures writable { IsWritablePlan (plan_value result) }
     {
         if cx.now < retry_at {
@@ -188,7 +189,8 @@ impl<'a> Socket<'a> {
         word: u32,
     ) -> OutgoingMessage<'a>
         requires { AreSettingsWritable self.now.settings cx.now.ip_mtu }
-        ensures value { outgoing_value result ≡ renewal_of self.now.settings cx.entry.now address destination word }
+        ensures value { outgoing_value result
+            ≡ renewal_of self.now.settings cx.entry.now address destination word }
         ensures writable { IsWritable (outgoing_value result).message }
         ensures udp { result.ip.next_header ≡ Udp }
     {
@@ -215,7 +217,8 @@ impl<'a> Socket<'a> {
     fn broadcast(&self, dhcp: DhcpRepr<'a>) -> OutgoingMessage<'a>
         requires { IsWritable (message_of dhcp) }
         ensures value { outgoing_value result
-            ≡ broadcast_outgoing self.now.settings.client_port self.now.settings.server_port (message_of dhcp.entry) }
+            ≡ broadcast_outgoing self.now.settings.client_port self.now.settings.server_port
+            (message_of dhcp.entry) }
         ensures udp { result.ip.next_header ≡ Udp }
     {
         outgoing(

@@ -111,12 +111,15 @@ impl<'a> Socket<'a> {
 
     /// Options that each message carries behind the client's.
     pub fn set_outgoing_options(&mut self, options: &'a [DhcpOption<'a>])
-        ensures { self.new ≡ record self.old { settings = record self.old.settings { options = map option_value options.entry.now } } }
+        ensures { self.new ≡ record self.old {
+          settings = record self.old.settings { options = map option_value options.entry.now };
+        } }
     {
         self.config.options = options;
     }
 
-    /// Messages that are taken are laid to its front, where it has room for them; an event shows the whole of it.
+    /// Messages that are taken are laid to its front, where it has room for them; an event shows the whole of
+    /// it.
     pub fn set_receive_packet_buffer(&mut self, buffer: &'a mut [u8])
         ensures { self.new ≡ record self.old { packet = Some buffer.old } }
     {
@@ -126,7 +129,9 @@ impl<'a> Socket<'a> {
     /// The options that servers are asked for (RFC 2132, section 9.8).
     pub fn set_parameter_request_list(&mut self, list: &'a [u8])
         requires { IsRequestList list.now }
-        ensures { self.new ≡ record self.old { settings = record self.old.settings { parameters = list.entry.now } } }
+        ensures { self.new ≡ record self.old {
+          settings = record self.old.settings { parameters = list.entry.now };
+        } }
     {
         self.config.parameters = list;
     }
@@ -152,7 +157,9 @@ impl<'a> Socket<'a> {
 
     /// Whether refusals of servers are ignored, which RFC 2131 does not allow.
     pub fn set_ignore_naks(&mut self, ignore: bool)
-        ensures { self.new ≡ record self.old { settings = record self.old.settings { ignore_naks = ignore } } }
+        ensures { self.new ≡ record self.old {
+          settings = record self.old.settings { ignore_naks = ignore };
+        } }
     {
         self.config.ignore_naks = ignore;
     }
@@ -234,8 +241,8 @@ impl<'a> Socket<'a> {
         }
     }
 
-    /// Takes in what arrived from a server's port and address; bytes that are no message of a server to this client, or
-    /// none that counts now, change nothing.
+    /// Takes in what arrived from a server's port and address; bytes that are no message of a server to this
+    /// client, or none that counts now, change nothing.
     pub fn process(&mut self, cx: &Context, src: Ipv4Address, payload: &[u8])
         ensures value { self.new
             ≡ after_message self.old cx.entry.now src payload.entry.now (message_at payload.entry.now) }
@@ -355,7 +362,8 @@ impl<'a> Socket<'a> {
         out: &mut E,
     ) -> Result<(), EmitError>
         requires { AreSettingsWritable self.old.settings cx.now.ip_mtu }
-        ensures value { Dispatched E.took E.refused (plan_for self.old cx.entry.now word) result self.old self.new out.old out.new }
+        ensures value { Dispatched E.took E.refused (plan_for self.old cx.entry.now word) result
+            self.old self.new out.old out.new }
         ensures others { self.new.settings ≡ self.old.settings }
     {
         match self.plan(cx, word) {
