@@ -12,7 +12,8 @@ use Rattle.dns_client.specs.declared.query.DnsQuery.{DnsQuery}
 use Rattle.dns_client.specs.declared.query.QueryState.{QueryState}
 use Rattle.dns_client.specs.declared.query.QueryState.TheVariants.{Pending, Answered, Failed}
 use Rattle.dns_client.specs.declared.query.Turn.{Turn}
-use Rattle.dns_client.specs.Looks.{Choice, Pass, Keep, Fail, Ask, places, turned_by, turned, sent_to, choice_from, choice_at, look, look_in, with_turn, Walk, Quiet, Sends, behind, walk_on, walk}
+use Rattle.dns_client.specs.Looks.{Choice, Pass, Keep, Fail, Ask, places, choice_from, choice_at, look, look_in, with_turn, Walk, Quiet, Sends, behind, walk_on, walk}
+use Rattle.dns_client.specs.Turns.{turned_by, turned, sent_to}
 use Rattle.dns_client.specs.Repeated.{last_instant, IsTimed, IsTimedIn, IsRepeated}
 use Rattle.dns_client.specs.Response.{failed}
 use Rattle.dns_client.specs.Slots.{Slots}

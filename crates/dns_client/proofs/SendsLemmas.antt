@@ -10,7 +10,8 @@ use Rattle.dns_client.specs.declared.query.DnsQuery.{DnsQuery}
 use Rattle.dns_client.specs.declared.query.QueryState.{QueryState}
 use Rattle.dns_client.specs.declared.query.QueryState.TheVariants.{Pending, Answered, Failed}
 use Rattle.dns_client.specs.declared.query.Turn.{Turn}
-use Rattle.dns_client.specs.Looks.{Choice, Keep, Fail, places, turned_by, turned, sent_to, choice_from, choice_at, look, look_in}
+use Rattle.dns_client.specs.Looks.{Choice, Keep, Fail, places, choice_from, choice_at, look, look_in}
+use Rattle.dns_client.specs.Turns.{turned_by, turned, sent_to}
 use Rattle.dns_client.specs.Repeated.{last_instant}
 use Rattle.dns_client.specs.Response.{failed}
 use Rattle.dns_client.specs.Sends.{QueryLook, left_by, slot_behind, sent_by, messages_to, AreUpTo}

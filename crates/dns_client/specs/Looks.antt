@@ -1,13 +1,12 @@
 -- Looks at queries (RFC 1035, section 7.2; RFC 6762, section 5.1): where a look finds a query due, its next
 -- message is sent.
-use Rattle.std.specs.Prelude.{◌≡◌, ℕ, ◌+◌, ◌*◌, nat_lt, List, [], ◌∷◌, ◌++◌, length, replicate, Option, Some, None, Result, Ok, OnOk, OnErr, ℤ, pos, int_lt, slice_get, if◌then◌else◌}
+use Rattle.std.specs.Prelude.{◌≡◌, ℕ, ◌+◌, List, [], ◌∷◌, ◌++◌, length, replicate, Option, Some, None, Result, Ok, OnOk, OnErr, ℤ, int_lt, slice_get, if◌then◌else◌}
 use Rattle.net_wire.specs.declared.address.IpAddress.{IpAddress}
 use Rattle.net_wire.specs.declared.address.IpAddress.TheVariants as ip
 use Rattle.net_wire.specs.declared.error.EmitError.{EmitError}
 use Rattle.net_wire.specs.declared.protocol.IpProtocol.TheVariants.{Udp}
 use Rattle.net_wire.specs.DnsMessage.{query_bytes}
 use Rattle.net_wire.specs.IpAddress.{is_unspecified}
-use Rattle.net_wire.specs.Time.{instant_after}
 use Rattle.dns_client.specs.declared.query.MulticastDns.{MulticastDns}
 use Rattle.dns_client.specs.declared.query.MulticastDns.TheVariants.{Disabled, Enabled}
 use Rattle.dns_client.specs.declared.query.DnsQuery.{DnsQuery}
@@ -18,6 +17,7 @@ use Rattle.dns_client.specs.declared.look.Route.{Route}
 use Rattle.dns_client.specs.Emit.{Outgoing, Emitted}
 use Rattle.dns_client.specs.Response.{failed}
 use Rattle.dns_client.specs.Slots.{Slots}
+use Rattle.dns_client.specs.Turns.{turned, sent_to}
 use Rattle.dns_client.specs.Waiting.{RequestValue, Waiting}
 
 -- The list that a query asks: the servers by port 53, or the groups of mDNS, ff02::fb and 224.0.0.251, by
@@ -34,34 +34,6 @@ places servers Enabled = groups
 abbrev pub port_of : MulticastDns → ℕ
 port_of Disabled = 53
 port_of Enabled = 5353
-
--- A turn is over where its timeout is before now: the next place is asked, from the beginning. It has its
--- timeout at the first look.
-abbrev pub turned_by : Option ℤ → ℤ → Turn → Turn
-turned_by None now turn = record turn { timeout_at = Some (instant_after now 10000000) }
-turned_by (Some timeout) now turn =
-    if int_lt timeout now
-    then record {
-      timeout_at = Some (instant_after now 10000000);
-      retransmit_at = pos 0;
-      delay = 1000000;
-      place = turn.place + 1;
-      asked = turn.asked;
-    }
-    else turn
-
-abbrev pub turned : ℤ → Turn → Turn
-turned now turn = turned_by turn.timeout_at now turn
-
--- a message was sent: the next one is due after the delay, which doubles up to ten seconds
-abbrev pub sent_to : IpAddress → ℤ → Turn → Turn
-sent_to to now turn = record {
-  timeout_at = turn.timeout_at;
-  retransmit_at = instant_after now turn.delay;
-  delay = if nat_lt (turn.delay * 2) 10000000 then turn.delay * 2 else 10000000;
-  place = turn.place;
-  asked = Some to;
-}
 
 -- what a look does: pass a slot with no query that waits, keep the query with this turn, end it, or ask: the
 -- request, the source, the destination, and the turn where the message is refused, and where it is taken

@@ -28,6 +28,14 @@ with_new new (Some query ∷ slots) = Some query ∷ with_new new slots
 abbrev pub slot_at : Slots → QueryHandle → Option DnsQuery
 slot_at slots handle = slice_index_or slots handle.0 None
 
+-- the handle of a slot, where a query is in it
+abbrev pub handle_in : ℕ → Option DnsQuery → Option QueryHandle
+handle_in slot None = None
+handle_in slot (Some query) = Some (record { 0 = slot })
+
+abbrev pub handle_at : Slots → ℕ → Option QueryHandle
+handle_at slots slot = handle_in slot (slice_index_or slots slot None)
+
 -- the slot of a handle is free
 abbrev pub without : Slots → QueryHandle → Slots
 without slots handle = slice_set slots handle.0 None

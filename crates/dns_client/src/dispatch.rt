@@ -1,5 +1,5 @@
 //! What the client sends.
-ghost use Rattle.std.specs.Prelude.{◌≡◌, ◌≤◌, Some, length};
+ghost use Rattle.std.specs.Prelude.{◌≡◌, ◌<◌, ◌≤◌, Some, length};
 ghost use Rattle.dns_client.specs.Emit.{Emitted};
 ghost use Rattle.dns_client.specs.LookRead.{request_of};
 ghost use Rattle.dns_client.specs.Looks.{look, walk, message_for, Dispatched};
@@ -16,7 +16,8 @@ const MAX_QUERY: usize = 271;
 
 /// Hands the message of a request to the emitter.
 fn send<E: DnsEmit>(route: &Route, request: &Request, out: &mut E) -> Result<(), EmitError>
-    requires { E.source out.old route.now.to ≡ Some route.now.from }
+    requires place { route.now.place < 3 }
+    requires source { E.source out.old route.now.to ≡ Some route.now.from }
     ensures { Emitted E.took E.refused (message_for route.now request.now) result out.old out.new }
 {
     let query = Repr {
@@ -46,7 +47,8 @@ fn send<E: DnsEmit>(route: &Route, request: &Request, out: &mut E) -> Result<(),
 
 /// Hands the message of a slot to the emitter, if its query waits.
 fn ask<E: DnsEmit>(route: &Route, slot: &Option<DnsQuery>, out: &mut E) -> Result<(), EmitError>
-    requires { E.source out.old route.now.to ≡ Some route.now.from }
+    requires place { route.now.place < 3 }
+    requires source { E.source out.old route.now.to ≡ Some route.now.from }
     ensures { (request : RequestValue) → request_of slot.now ≡ Some request
         → Emitted E.took E.refused (message_for route.now request) result out.old out.new }
 {

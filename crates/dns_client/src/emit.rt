@@ -1,5 +1,5 @@
 //! The outside that takes the messages of the client.
-ghost use Rattle.std.specs.Prelude.{◌≡◌, ◌+◌, ◌≤◌, length, Option, Some};
+ghost use Rattle.std.specs.Prelude.{◌≡◌, ◌+◌, ◌<◌, ◌≤◌, length, Option, Some};
 ghost use Rattle.net_wire.specs.declared.address.IpAddress.{IpAddress};
 ghost use Rattle.net_wire.specs.declared.protocol.IpProtocol.TheVariants.{Udp};
 ghost use Rattle.dns_client.specs.Emit.{Outgoing, Emitted};
@@ -23,7 +23,8 @@ pub trait DnsEmit {
     fn source_for(&self, dst: IpAddress) -> Option<IpAddress>
         ensures { result ≡ source self.now dst };
 
-    /// Sends a message in a UDP datagram. `place` is the place in the list of servers or groups.
+    /// Sends a message in a UDP datagram. `place` is the place in the list of servers or groups, which has
+    /// three at most.
     fn emit(
         &mut self,
         handle: QueryHandle,
@@ -32,6 +33,7 @@ pub trait DnsEmit {
         udp: &UdpRepr,
         payload: &[u8],
     ) -> Result<(), EmitError>
+        requires place { place < 3 }
         requires source { source self.old ip.now.dst_addr ≡ Some ip.now.src_addr }
         requires len { ip.now.payload_len ≡ length payload.now + 8 }
         requires size { length payload.now ≤ 271 }

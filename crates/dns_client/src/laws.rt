@@ -10,14 +10,14 @@ pub fn undecided_is_unchanged()
     ensures { UndecidedIsUnchanged }
 {}
 
-/// A second look at the same instant changes nothing, and sends nothing again that was taken. The instant is before the
-/// last one, 2^63 - 1 microseconds, and the delay of each query that waits is above 0.
+/// A second look at the same instant changes nothing, and sends nothing again that was taken. The instant is
+/// before the last one, 2^63 - 1 microseconds, and the delay of each query that waits is above 0.
 pub fn second_look_changes_nothing()
     ensures { SecondLookChangesNothing }
 {}
 
-/// A query sends at most four messages to one place of the list that it asks, by looks whose times never fall and are
-/// before the last instant, 2^63 - 1 microseconds.
+/// A query sends at most four messages to one place of the list that it asks, by looks whose times never fall
+/// and are before the last instant, 2^63 - 1 microseconds.
 pub fn four_messages_to_a_place()
     ensures { FourMessages }
 {}

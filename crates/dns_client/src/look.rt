@@ -1,9 +1,9 @@
 //! Looks at queries.
 ghost use Rattle.std.specs.Prelude.{◌≡◌, ◌<◌, ◌≤◌, ◌*◌, nat_lt, length, slice_get, Some, OnSome};
 ghost use Rattle.std.specs.Prelude.{if◌then◌else◌};
-ghost use Rattle.dns_client.specs.Looks.{places, port_of, turned, sent_to, choice_for, look, with_turn};
+ghost use Rattle.dns_client.specs.Looks.{places, port_of, choice_for, look, with_turn};
 ghost use Rattle.dns_client.specs.LookRead.{request_of, choice_value, choice_in, IsAsked, IsShortChoice};
-ghost use Rattle.dns_client.specs.Turns.{IsShort};
+ghost use Rattle.dns_client.specs.Turns.{IsShort, turned, sent_to};
 
 use crate::query::{DnsQuery, PendingQuery, QueryState, Turn};
 use crate::response::{DNS_PORT, MDNS_PORT};

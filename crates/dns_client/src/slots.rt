@@ -1,6 +1,6 @@
 //! Slots of queries, wherever they lie.
 ghost use Rattle.std.specs.Prelude.{◌≡◌, ◌<◌, ◌≤◌, length, IsTrue, IsSome, IfOk, IfErr, OnErr, ◌↔◌};
-ghost use Rattle.dns_client.specs.Slots.{first_free, with_new, slot_at, without, Gives, least_due, due_of};
+ghost use Rattle.dns_client.specs.Slots.{first_free, with_new, slot_at, handle_at, without, Gives, least_due, due_of};
 ghost use Rattle.dns_client.specs.Slots.{earlier};
 
 use crate::query::{DnsQuery, QueryHandle, QueryState};
@@ -71,6 +71,17 @@ pub(crate) fn is_live(slots: &[Option<DnsQuery>], handle: QueryHandle) -> bool
     ensures { IsTrue result ↔ IsSome (slot_at slots.now handle) }
 {
     handle.0 < slots.len() && slots[handle.0].is_some()
+}
+
+/// The handle of the query in a slot.
+pub(crate) fn handle_at(slots: &[Option<DnsQuery>], slot: usize) -> Option<QueryHandle>
+    ensures { result ≡ handle_at slots.now slot }
+{
+    if slot < slots.len() && slots[slot].is_some() {
+        Some(QueryHandle(slot))
+    } else {
+        None
+    }
 }
 
 /// Frees the slot of a handle.

@@ -7,7 +7,7 @@ ghost use Rattle.dns_client.specs.Looks.{look, walk, Dispatched};
 use crate::dispatch::dispatch;
 use crate::query::{DnsQuery, QueryHandle};
 use crate::response::{Arrived, DNS_PORT, MDNS_PORT, hear, is_response, is_same_address};
-use crate::slots::{free, is_live, least_due, take_result};
+use crate::slots::{free, handle_at, is_live, least_due, take_result};
 use crate::{DnsEmit, GetQueryResultError};
 use arrayvec::ArrayVec;
 use managed::ManagedSlice;
@@ -55,7 +55,7 @@ impl<'a> Socket<'a> {
     ghost use Rattle.std.specs.Prelude.{◌≢◌, Some, None, IsTrue, IsSome, ◌↔◌};
     ghost use Rattle.managed.specs.Storage.{items_of, item_storage};
     ghost use Rattle.dns_client.specs.Client.{client_of, hop_limit_of};
-    ghost use Rattle.dns_client.specs.Slots.{slot_at, without, Gives, least_due};
+    ghost use Rattle.dns_client.specs.Slots.{slot_at, handle_at, without, Gives, least_due};
 
     /// A client of the first three servers. Slots that hold queries keep them.
     pub fn new(servers: &[IpAddress], queries: ManagedSlice<'a, Option<DnsQuery>>) -> Socket<'a>
@@ -100,6 +100,13 @@ impl<'a> Socket<'a> {
         ensures value { IsTrue result ↔ IsSome (slot_at (client_of self.now).slots handle) }
     {
         is_live(self.queries.as_slice(), handle)
+    }
+
+    /// The handle of the query in a slot, if one is in it.
+    pub fn handle_at(&self, slot: usize) -> Option<QueryHandle>
+        ensures value { result ≡ handle_at (client_of self.now).slots slot }
+    {
+        handle_at(self.queries.as_slice(), slot)
     }
 
     /// The addresses of a query. A query that ended frees its slot.
