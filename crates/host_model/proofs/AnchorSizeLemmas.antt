@@ -10,7 +10,7 @@ use Rattle.dhcp_client.specs.Hearing.{same_address}
 use Rattle.dhcp_client.specs.Messages.{limited_broadcast}
 use Rattle.host_model.specs.declared.held.Held.{Held}
 use Rattle.host_model.specs.declared.neighbor.Neighbor.{Neighbor}
-use Rattle.host_model.specs.Script.{Arrival, Tick, Reset, Frame, Event}
+use Rattle.host_model.specs.Script.{Arrival, Tick, Reset, Frame, Query, Event}
 use Rattle.host_model.specs.Settings.{Settings}
 use Rattle.host_model.specs.History.{Entry, times_since}
 use Rattle.host_model.specs.Anchor.{Anchor, Loss, Offer, Ack, anchor_after, anchor_after_arrival, anchor_at, anchor_before, is_over, place_of}
@@ -18,7 +18,8 @@ use Rattle.host_model.specs.Lease.{held_before, held_under}
 use Rattle.host_model.specs.Neighbor.{ethernet_broadcast, events_of, hop_address, hop_of, is_on_network, known_at, known_hop, neighbor_in, or_told, told_by}
 use Rattle.host_model.specs.Sizes.{HasSix}
 use Rattle.host_model.proofs.HeldSizeLemmas.{AnchorsFours, arrival_fours}
-use Rattle.host_model.proofs.ReadSizeLemmas.{HasFourIn, HasSender, sender_sized}
+use Rattle.host_model.proofs.AddressSizeLemmas.{HasFourIn}
+use Rattle.host_model.proofs.ReadSizeLemmas.{HasSender, sender_sized}
 
 after_fours : (settings : Settings) (before : List Entry) (event : Event) (had : Anchor) → AnchorsFours had
     → AnchorsFours (anchor_after settings before event had)
@@ -28,7 +29,7 @@ after_fours settings before event had fours =
     (Loss (length before)) anchor AnchorsFours (λ over. tt)
     (λ going. arrival_fours settings before event.at event.arrival had fours)
 
-before_fours : (settings : Settings) (before : List Entry) → AnchorsFours (anchor_before settings before)
+pub before_fours : (settings : Settings) (before : List Entry) → AnchorsFours (anchor_before settings before)
 before_fours settings [] = tt
 before_fours settings (entry ∷ before) =
     after_fours settings before entry.event (anchor_before settings before) (before_fours settings before)
@@ -76,6 +77,7 @@ pub told_sender : (settings : Settings) (arrival : Arrival) → HasSender (told_
 told_sender settings Tick = tt
 told_sender settings Reset = tt
 told_sender settings (Frame bytes) = sender_sized settings.hardware bytes
+told_sender settings (Query type_ name) = tt
 
 told_six : (address : Ipv4Address) (at : ℕ) (told : Option ArpRepr) (known : Option Neighbor) → HasSender told
     → KnowsSix known → KnowsSix (or_told address at told known)

@@ -1,6 +1,6 @@
 -- The classes of a script exclude each other.
 use Rattle.std.proofs.Common.{◌≡◌, ℕ, ◌<◌, ◌≤◌, ⊎_elim, List, [], ◌∷◌, ◌++◌, length, ap, sym, ◌∙◌, arith, append-nil, length-append}
-use Rattle.host_model.specs.Script.{Event, Spells, head_bytes}
+use Rattle.host_model.specs.Script.{Event, Spells, head_with}
 use Rattle.host_model.specs.Classes.{IsScript, BeginsWith, IsOverLimit, IsBrokenAt}
 use Rattle.host_model.proofs.ScriptLemmas.{Compared, compared, MoreEvents}
 
@@ -13,7 +13,7 @@ more_events last es fs xs more =
 -- an event has bytes
 pub some_bytes : (event : Event) (front : List ℕ) → Spells event front → 9 ≤ length front
 some_bytes event front spelled =
-    let head = head_bytes event.arrival event.at in
+    let head = head_with spelled.kind event.at in
     let counted : length front ≡ length (head ++ spelled.rest) = ap length spelled.whole in
     omega (arith, counted, length-append head spelled.rest)
 

@@ -3,14 +3,13 @@
 use Rattle.std.proofs.Common.{◌≡◌, ℕ, zero, suc, ◌-◌, List, [], ◌∷◌, ◌++◌, Option, Some, None, length, take, refl, ap, ap₂, ◌∙◌}
 use Rattle.net_wire.specs.declared.address.Ipv4Address.{Ipv4Address}
 use Rattle.host_model.specs.declared.words.EventWords.{EventWords}
-use Rattle.host_model.specs.Script.{Arrival, Tick, Reset, Frame, Event}
+use Rattle.host_model.specs.Script.{Arrival, Tick, Reset, Frame, Query, Event}
 use Rattle.host_model.specs.Settings.{Settings}
 use Rattle.host_model.specs.History.{Entry, SentMessage, Transmission, id_of, last_id, sent_times, times_since, with_time}
 use Rattle.host_model.specs.Anchor.{Anchor, Loss, anchor_after, anchor_after_arrival, anchor_after_time, anchor_at, anchor_before, place_of}
 use Rattle.host_model.specs.Chronicle.{entry_of, sent_by}
 use Rattle.host_model.specs.Named.{named_message}
 use Rattle.host_model.specs.Neighbor.{events_of, hop_address, hop_of, known_at, known_hop, neighbor_in, or_told, told_by}
-use Rattle.host_model.specs.Frames.{dhcp_frames, frames_of, replies}
 use Rattle.host_model.specs.Lease.{held_before, held_under}
 use Rattle.host_model.proofs.Alike.{AreAlike}
 
@@ -51,6 +50,7 @@ module _ (settings : Settings) (before : List Entry) (one other : Entry)
   same_arrival newer at Tick anchor = refl
   same_arrival newer at Reset anchor = ap Loss (same_length newer)
   same_arrival newer at (Frame bytes) anchor = rw (same_length newer, same_id newer) refl
+  same_arrival newer at (Query type_ name) anchor = refl
 
   same_time : (newer : List Entry) (at : ℕ) (anchor : Anchor)
       → anchor_after_time settings (newer ++ one ∷ before) at anchor
@@ -90,7 +90,7 @@ module _ (settings : Settings) (before : List Entry) (one other : Entry)
       )
       refl
 
-  same_held : (newer : List Entry)
+  pub same_held : (newer : List Entry)
       → held_before settings (newer ++ one ∷ before) ≡ held_before settings (newer ++ other ∷ before)
   same_held newer = ap held_under (same_anchor newer)
 
@@ -102,7 +102,7 @@ module _ (settings : Settings) (before : List Entry) (one other : Entry)
       ap (λ known. hop_of event.at (or_told address event.at (told_by settings event.arrival) known))
       (same_neighbor newer address)
 
-  same_hop : (newer : List Entry) (event : Event) (destination : Ipv4Address)
+  pub same_hop : (newer : List Entry) (event : Event) (destination : Ipv4Address)
       → known_hop settings (newer ++ one ∷ before) event destination
       ≡ known_hop settings (newer ++ other ∷ before) event destination
   same_hop newer event destination =
@@ -127,23 +127,3 @@ module _ (settings : Settings) (before : List Entry) (one other : Entry)
       rw (same_message newer event words)
       (ap with_sent
       (same_sending newer event (named_message settings (newer ++ other ∷ before) event words)))
-
-  same_dhcp : (newer : List Entry) (event : Event) (message : Option Transmission)
-      → dhcp_frames settings.hardware (held_before settings (newer ++ one ∷ before))
-      (known_hop settings (newer ++ one ∷ before) event) message
-      ≡ dhcp_frames settings.hardware (held_before settings (newer ++ other ∷ before))
-      (known_hop settings (newer ++ other ∷ before) event) message
-  same_dhcp newer event None = refl
-  same_dhcp newer event (Some transmission) =
-      rw (same_hop newer event transmission.destination, same_held newer) refl
-
-  pub same_frames : (newer : List Entry) (event : Event) (words : EventWords)
-      → frames_of settings (newer ++ one ∷ before) event words
-      ≡ frames_of settings (newer ++ other ∷ before) event words
-  same_frames newer event words =
-      ap₂ (λ reply dhcp. reply ++ dhcp)
-      (ap (λ held. replies settings.hardware held (told_by settings event.arrival)) (same_held newer))
-      (ap (dhcp_frames settings.hardware (held_before settings (newer ++ one ∷ before))
-      (known_hop settings (newer ++ one ∷ before) event))
-      (same_message newer event words)
-      ∙ same_dhcp newer event (named_message settings (newer ++ other ∷ before) event words))

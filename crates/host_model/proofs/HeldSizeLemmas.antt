@@ -13,13 +13,14 @@ use Rattle.net_wire.specs.Unicast.{is_unicast}
 use Rattle.dhcp_client.specs.declared.state.ServerInfo.{ServerInfo}
 use Rattle.dhcp_client.specs.Config.{ClientSettings}
 use Rattle.dhcp_client.specs.Heard.{Granted, Heard, Nothing, AnOffer, AnAck, ARefusal, Ear, prefix_in, server_with, ack_with, heard_by_type, heard_from, heard_of, is_for}
-use Rattle.host_model.specs.Script.{Arrival, Tick, Reset, Frame}
+use Rattle.host_model.specs.Script.{Arrival, Tick, Reset, Frame, Query}
 use Rattle.host_model.specs.Settings.{Settings}
 use Rattle.host_model.specs.History.{Entry}
 use Rattle.host_model.specs.Hearing.{ear_after, heard_at, heard_by, is_for_client}
 use Rattle.host_model.specs.Anchor.{Anchor, anchor_after, anchor_after_arrival, anchor_after_heard, anchor_before, is_over, place_of}
 use Rattle.host_model.specs.Anchor as anchor
-use Rattle.host_model.proofs.ReadSizeLemmas.{HasFourIn, HasFourSource, HasFours, HasFoursIn, message_fours, source_four}
+use Rattle.host_model.proofs.AddressSizeLemmas.{HasFourIn, HaveFour}
+use Rattle.host_model.proofs.ReadSizeLemmas.{HasFourSource, HasFours, HasFoursIn, message_fours, source_four}
 
 pub record OffersFours (server : ServerInfo) (address : Ipv4Address) : Type 0 where
   pub source : HasFour server.address
@@ -29,6 +30,7 @@ pub record OffersFours (server : ServerInfo) (address : Ipv4Address) : Type 0 wh
 pub record GrantsFours (granted : Granted) : Type 0 where
   pub address : HasFour granted.address.address
   pub router : HasFourIn granted.router
+  pub servers : HaveFour granted.dns_servers
 
 abbrev HearsFours : Heard → Type 0
 HearsFours Nothing = ⊤
@@ -44,7 +46,8 @@ by_test false one other if_one if_other = if_other
 ack_fours : (settings : ClientSettings) (message : Message) (prefix : Option ℕ) → HasFours message
     → HearsFours (ack_with settings message prefix)
 ack_fours settings message None fours = tt
-ack_fours settings message (Some prefix_len) fours = record { address = fours.your_ip; router = fours.router }
+ack_fours settings message (Some prefix_len) fours =
+    record { address = fours.your_ip; router = fours.router; servers = fours.servers }
 
 type_fours : (settings : ClientSettings) (server : ServerInfo) (message : Message) (kind : DhcpMessageType)
     → HasFours message → HasFour server.address → HasFour server.identifier
@@ -113,3 +116,4 @@ arrival_fours settings before at (Frame bytes) had fours =
     heard_fours (length before) at (heard_at settings before bytes) had
     (by_fours (ear_after settings before) (arriving_datagram settings.hardware bytes)
     (source_four settings.hardware bytes)) fours
+arrival_fours settings before at (Query type_ name) had fours = fours

@@ -1,12 +1,10 @@
 -- Addresses that are read have their bytes.
-use Rattle.std.proofs.Common.{◌≡◌, ℕ, ◌+◌, ◌-◌, ◌/◌, ◌≤◌, true, nat_le, nat_eq, List, [], ◌∷◌, Option, Some, None, length, drop, refl, arith}
+use Rattle.std.proofs.Common.{◌≡◌, ℕ, ◌/◌, ◌≤◌, true, nat_le, nat_eq, List, Option, Some, None, length, drop, arith}
 use Rattle.std.specs.Prelude.{⊤, ◌==◌, ◌&&◌, slice_index}
 use Rattle.std.proofs.lemmas.Bool.{and_parts, cond_both, leb-true}
-use Rattle.std.proofs.lemmas.List.{length-take-le, length-drop}
 use Rattle.std.specs.Cmp.Lexicographic.{pointwise}
 use Rattle.wire_base.specs.Bytes.{bytes_between, be16_at, be32_at}
 use Rattle.net_wire.specs.declared.address.EthernetAddress.{EthernetAddress}
-use Rattle.net_wire.specs.declared.address.Ipv4Address.{Ipv4Address}
 use Rattle.net_wire.specs.declared.arp.ArpRepr.{ArpRepr}
 use Rattle.net_wire.specs.Arp.{arp_at, arp_spaces, arriving_arp, has_arp, is_from_host}
 use Rattle.net_wire.specs.Arrival.{arriving_datagram, body_of, datagram_with, has_packet_for, has_right_sum, has_udp, ip_header_len, is_for, is_packet, is_udp_packet, packet_datagram, total_len, udp_datagram}
@@ -14,35 +12,17 @@ use Rattle.net_wire.specs.Datagram.{Datagram}
 use Rattle.net_wire.specs.DhcpBytes.{op_of}
 use Rattle.net_wire.specs.DhcpMessage.{Message}
 use Rattle.net_wire.specs.DhcpOptions.{Item, items_of, last_of}
-use Rattle.net_wire.specs.DhcpRead.{address_at, address_in, byte_in, is_header, message_at, message_of_items, message_of_type, message_with}
+use Rattle.net_wire.specs.DhcpRead.{address_at, byte_in, is_header, message_at, message_of_items, message_of_type, message_with}
 use Rattle.net_wire.specs.DhcpReadBack.{HasFour}
+use Rattle.dhcp_client.specs.Heard.{servers_in}
 use Rattle.host_model.specs.Sizes.{HasSix}
-
-length-between : (bytes : List ℕ) (start end : ℕ) → start ≤ end → end ≤ length bytes
-    → length (bytes_between start end bytes) ≡ end - start
-length-between bytes start end forth within =
-    length-take-le (end - start) (drop start bytes) (omega (arith, length-drop start bytes, forth, within))
-
-pub four_at : (bytes : List ℕ) (at : ℕ) → at + 4 ≤ length bytes → HasFour (address_at bytes at)
-four_at bytes at within = omega (arith, length-between bytes at (at + 4) (omega arith) within)
-
--- an address that is read has four bytes, if one is
-abbrev pub HasFourIn : Option Ipv4Address → Type 0
-HasFourIn None = ⊤
-HasFourIn (Some address) = HasFour address
-
-four_in : (found : Option (List ℕ)) → HasFourIn (address_in found)
-four_in None = tt
-four_in (Some []) = tt
-four_in (Some (a ∷ [])) = tt
-four_in (Some (a ∷ b ∷ [])) = tt
-four_in (Some (a ∷ b ∷ c ∷ [])) = tt
-four_in (Some (a ∷ b ∷ c ∷ d ∷ more)) = refl
+use Rattle.host_model.proofs.AddressSizeLemmas.{HasFourIn, HaveFour, four_at, four_in, length-between, servers_fours}
 
 -- those of a message that a client goes by
 pub record HasFours (message : Message) : Type 0 where
   pub your_ip : HasFour message.your_ip
   pub router : HasFourIn message.router
+  pub servers : HaveFour (servers_in message.dns_servers)
   pub server_identifier : HasFourIn message.server_identifier
 
 abbrev pub HasFoursIn : Option Message → Type 0
@@ -57,6 +37,7 @@ typed_fours bytes items (Some number) long =
     (λ right. record {
       your_ip = four_at bytes 16 (omega (arith, long));
       router = four_in (last_of 3 items);
+      servers = servers_fours (last_of 6 items);
       server_identifier = four_in (last_of 54 items);
     })
     (λ wrong. tt)

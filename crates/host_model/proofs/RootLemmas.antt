@@ -2,7 +2,7 @@
 use Rattle.std.proofs.Common.{◌≡◌, ◌<◌, inl, inr, List, [], ◌∷◌, length, refl, arith}
 use Rattle.std.proofs.lemmas.Bool.{cond_both}
 use Rattle.dhcp_client.specs.Heard.{Heard, Nothing, AnOffer, AnAck, ARefusal}
-use Rattle.host_model.specs.Script.{Arrival, Tick, Reset, Frame}
+use Rattle.host_model.specs.Script.{Arrival, Tick, Reset, Frame, Query}
 use Rattle.host_model.specs.Settings.{Settings}
 use Rattle.host_model.specs.History.{Entry, times_since}
 use Rattle.host_model.specs.Hearing.{heard_at}
@@ -82,6 +82,7 @@ rooted_arrival settings before entry Reset anchor is rooted =
 rooted_arrival settings before entry (Frame bytes) anchor is rooted =
     rooted_heard settings before entry (heard_at settings before bytes) anchor
     (record { bytes = bytes; frame = is; hears = refl }) rooted
+rooted_arrival settings before entry (Query type_ name) anchor is rooted = rooted_on settings before entry anchor rooted
 
 pub rooted : (settings : Settings) (entries : List Entry)
     → IsRooted settings entries (anchor_before settings entries)

@@ -1,6 +1,6 @@
 -- A list of ticks is a script.
 use Rattle.std.proofs.Common.{◌≡◌, ℕ, List, [], ◌∷◌, length, sym, refl, arith, append-nil}
-use Rattle.host_model.specs.Script.{Tick, SpellsAll, AreInOrder, head_bytes}
+use Rattle.host_model.specs.Script.{SpellsAll, AreInOrder, head_with}
 use Rattle.host_model.specs.TickScripts.{tick_bytes, ticks_at, AreRising}
 
 pub ticks_in_order : (last : ℕ) (times : List ℕ) → AreRising last times → AreInOrder last (ticks_at times)
@@ -11,10 +11,10 @@ ticks_in_order last (at ∷ times) rising =
 pub ticks_spelled : (times : List ℕ) → SpellsAll (ticks_at times) (tick_bytes times)
 ticks_spelled [] = refl
 ticks_spelled (at ∷ times) = (
-  head_bytes Tick at,
+  head_with 2 at,
   tick_bytes times,
   refl,
-  record { rest = []; brings = refl; whole = sym (append-nil (head_bytes Tick at)) },
+  record { kind = 2; rest = []; brings = (refl, refl); whole = sym (append-nil (head_with 2 at)) },
   ticks_spelled times,
 )
 

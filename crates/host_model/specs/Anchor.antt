@@ -5,7 +5,7 @@ use Rattle.dhcp_client.specs.declared.retry.RetryConfig.{RetryConfig}
 use Rattle.dhcp_client.specs.declared.state.ServerInfo.{ServerInfo}
 use Rattle.dhcp_client.specs.Heard.{Granted, Heard, AnOffer, AnAck, ARefusal}
 use Rattle.dhcp_client.specs.Times.{Spans, spans_with}
-use Rattle.host_model.specs.Script.{Arrival, Tick, Reset, Frame, Event}
+use Rattle.host_model.specs.Script.{Arrival, Tick, Reset, Frame, Query, Event}
 use Rattle.host_model.specs.Settings.{Settings}
 use Rattle.host_model.specs.History.{Entry, times_since}
 use Rattle.host_model.specs.Hearing.{heard_at}
@@ -44,8 +44,8 @@ is_over retry sent at (Offer place since server address) =
     nat_le retry.request_retries (length sent) && nat_le (offer_due retry since sent) at
 is_over retry sent at (Ack place since granted server) = nat_le (lease_times since granted).end at
 
--- What is heard at a place and a time makes of the anchor: an offer counts without a lease, an acknowledgement
--- and a refusal count with an offer or a lease. The server stays that of the offer.
+-- What is heard at a place and a time makes of the anchor: an offer counts without a lease, an
+-- acknowledgement and a refusal count with an offer or a lease. The server stays that of the offer.
 abbrev pub anchor_after_heard : ℕ → ℕ → Heard → Anchor → Anchor
 anchor_after_heard here at (AnOffer server address) (Loss place) = Offer here at server address
 anchor_after_heard here at (AnAck granted) (Offer place since server address) = Ack here at granted server
@@ -60,15 +60,19 @@ anchor_after_arrival settings before at Tick anchor = anchor
 anchor_after_arrival settings before at Reset anchor = Loss (length before)
 anchor_after_arrival settings before at (Frame bytes) anchor =
     anchor_after_heard (length before) at (heard_at settings before bytes) anchor
+anchor_after_arrival settings before at (Query type_ name) anchor = anchor
 
 -- what the time of an event makes of the anchor
 abbrev pub anchor_after_time : Settings → List Entry → ℕ → Anchor → Anchor
 anchor_after_time settings before at anchor =
-    if is_over settings.client.retry (times_since (place_of anchor) before) at anchor then Loss (length before) else anchor
+    if is_over settings.client.retry (times_since (place_of anchor) before) at anchor
+    then Loss (length before)
+    else anchor
 
 abbrev pub anchor_after : Settings → List Entry → Event → Anchor → Anchor
 anchor_after settings before event anchor =
-    anchor_after_time settings before event.at (anchor_after_arrival settings before event.at event.arrival anchor)
+    anchor_after_time settings before event.at
+    (anchor_after_arrival settings before event.at event.arrival anchor)
 
 -- the anchor after the events so far
 abbrev pub anchor_before : Settings → List Entry → Anchor

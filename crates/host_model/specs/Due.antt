@@ -9,13 +9,14 @@ abbrev pub loss_due : RetryConfig → List ℕ → ℕ
 loss_due retry [] = 0
 loss_due retry (last ∷ older) = last + retry.discover_timeout
 
--- with an offer that came at a time: then, and after each request the first timeout, doubled every two requests
+-- with an offer that came at a time: then, and after each request the first timeout, doubled every two
+-- requests
 abbrev pub offer_due : RetryConfig → ℕ → List ℕ → ℕ
 offer_due retry since [] = since
 offer_due retry since (last ∷ older) = last + request_span retry.initial_request_timeout (length older)
 
--- With a lease of these times: at T1; after a message before T2 half of what is left until T2, after one from T2
--- on half of what is left of the lease, within the bounds of both.
+-- With a lease of these times: at T1; after a message before T2 half of what is left until T2, after one from
+-- T2 on half of what is left of the lease, within the bounds of both.
 abbrev pub lease_due : RetryConfig → Spans → List ℕ → ℕ
 lease_due retry times [] = times.renew
 lease_due retry times (last ∷ older) =

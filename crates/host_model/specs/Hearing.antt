@@ -17,7 +17,9 @@ is_for_client settings datagram =
 abbrev pub heard_by : Ear → Option Datagram → Heard
 heard_by ear None = Nothing
 heard_by ear (Some datagram) =
-    if is_for_client ear.settings datagram then heard_of ear datagram.source (message_at datagram.payload) else Nothing
+    if is_for_client ear.settings datagram
+    then heard_of ear datagram.source (message_at datagram.payload)
+    else Nothing
 
 -- the client hears by the host's hardware address and the id of the last message
 abbrev pub ear_after : Settings → List Entry → Ear
@@ -26,4 +28,5 @@ ear_after settings before =
 
 -- what is heard of a frame that arrives behind these entries
 abbrev pub heard_at : Settings → List Entry → List ℕ → Heard
-heard_at settings before frame = heard_by (ear_after settings before) (arriving_datagram settings.hardware frame)
+heard_at settings before frame =
+    heard_by (ear_after settings before) (arriving_datagram settings.hardware frame)

@@ -1,6 +1,7 @@
 -- What the next hop of a datagram goes by: the first bits of addresses (RFC 4632, section 3.1), and the last
 -- packet that told of a station (RFC 826).
-use Rattle.std.specs.Prelude.{◌≡◌, ◌≢◌, ◌⊎◌, ℕ, ◌-◌, ◌/◌, ◌%◌, ◌^◌, ◌<◌, ◌≤◌, ◌↔◌, IsTrue, List, ◌∷◌, ◌++◌, Some, slice_index}
+use Rattle.std.specs.Prelude.{◌≡◌, ◌≢◌, ◌⊎◌, ◌↔◌, ℕ, ◌-◌, ◌/◌, ◌%◌, ◌^◌, ◌<◌, ◌≤◌}
+use Rattle.std.specs.Prelude.{IsTrue, List, ◌∷◌, ◌++◌, Some, slice_index}
 use Rattle.std.specs.List.{AllByRecursion}
 use Rattle.net_wire.specs.declared.address.EthernetAddress.{EthernetAddress}
 use Rattle.net_wire.specs.declared.address.Ipv4Address.{Ipv4Address}
@@ -11,7 +12,8 @@ use Rattle.host_model.specs.Script.{Event}
 use Rattle.host_model.specs.Settings.{Settings}
 use Rattle.host_model.specs.History.{Entry}
 use Rattle.host_model.specs.Lease.{held_before}
-use Rattle.host_model.specs.Neighbor.{ethernet_broadcast, events_of, told_by, neighbor_in, hop_address, hop_of, is_on_network, known_hop}
+use Rattle.host_model.specs.Neighbor.{ethernet_broadcast, events_of, told_by, neighbor_in}
+use Rattle.host_model.specs.Neighbor.{hop_address, hop_of, is_on_network, known_hop}
 
 -- the four numbers of an address are bytes
 abbrev pub IsOfBytes : Ipv4Address → Type 0
@@ -53,6 +55,7 @@ pub record IsNeighbor (settings : Settings) (events : List Event) (at : ℕ) (ad
   pub silent : AllByRecursion (IsSilentOn settings address) newer
   pub tells : TellsOf settings address event told
   pub hardware_is : told.source_hardware_addr ≡ hardware
+  -- in microseconds; a time before the event's counts as its own
   pub young : at - event.at < 60000000
 
 -- the hop at an address is known just where a station has told of it

@@ -21,7 +21,7 @@ held_under (Ack place since granted server) = Some (held_of granted)
 abbrev pub leased_under : Anchor → Option Ipv4Cidr
 leased_under anchor = option_map (λ held. held.address) (held_under anchor)
 
--- What is held when an event comes: a lease that the event brings or ends counts for its row's address, and not
--- yet for the ways of its frames.
+-- What is held when an event comes: a lease that the event brings or ends counts for its row's address, and
+-- not yet for the ways of its frames.
 abbrev pub held_before : Settings → List Entry → Option Held
 held_before settings before = held_under (anchor_before settings before)

@@ -4,7 +4,8 @@ use Rattle.std.specs.Prelude.{◌≡◌, List, [], ◌∷◌, ◌++◌, Some, No
 use Rattle.host_model.specs.Script.{Event}
 use Rattle.host_model.specs.Anchor.{Loss, Offer, Ack}
 use Rattle.host_model.specs.Examples.{tick, reset}
-use Rattle.host_model.specs.Lives.{all_sent, anchor, discovers, frame, granted, leased, life, our_address, our_cidr, requests, sent_at, server}
+use Rattle.host_model.specs.Lives.{all_sent, anchor, discovers, frame, granted, leased, life}
+use Rattle.host_model.specs.Lives.{our_address, our_cidr, requests, sent_at, server}
 use Rattle.host_model.specs.ServerFrames.{offer, ack, ack_for}
 
 -- An offer is requested in its event, with the id of the last message, which is 1 before there is one.

@@ -25,9 +25,9 @@ use Rattle.host_model.specs.ServerFrames.{host, told_station}
 abbrev pub frame : ℕ → List ℕ → Event
 frame at bytes = record { at = at; arrival = Frame bytes }
 
--- the first word of an event is 100 and its place
+-- the words of an event are 100 and its place, 7, and its place
 abbrev pub life_words : List ℕ
-life_words = flat_map (λ place. (100 + place) ∷ 0 ∷ 0 ∷ []) (range_with_len 0 40)
+life_words = flat_map (λ place. (100 + place) ∷ 7 ∷ place ∷ []) (range_with_len 0 40)
 
 abbrev pub life : List Event → List Entry
 life events = history example_settings life_words events

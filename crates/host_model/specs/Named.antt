@@ -3,7 +3,8 @@ use Rattle.std.specs.Prelude.{ℕ, Option, Some, None, List, nat_lt, if◌then�
 use Rattle.net_wire.specs.declared.address.Ipv4Address.{Ipv4Address}
 use Rattle.net_wire.specs.DhcpMessage.{Message}
 use Rattle.dhcp_client.specs.declared.state.ServerInfo.{ServerInfo}
-use Rattle.dhcp_client.specs.Messages.{discover_message, request_message, renewal_message, unspecified, limited_broadcast}
+use Rattle.dhcp_client.specs.Messages.{discover_message, request_message, renewal_message}
+use Rattle.dhcp_client.specs.Messages.{unspecified, limited_broadcast}
 use Rattle.host_model.specs.declared.words.EventWords.{EventWords}
 use Rattle.host_model.specs.Script.{Event}
 use Rattle.host_model.specs.Settings.{Settings}
@@ -18,17 +19,19 @@ broadcast_of message = record { message = message; source = unspecified; destina
 abbrev pub renewal_destination : ℕ → ℕ → ServerInfo → Ipv4Address
 renewal_destination at rebind server = if nat_lt at rebind then server.address else limited_broadcast
 
--- Without a lease: a discover, whose id is the event's first word. With an offer: a request of what was offered,
--- with the id of the last message. With a lease: a renewal from the leased address, whose id is the first word.
+-- Without a lease: a discover, whose id is the event's first word. With an offer: a request of what was
+-- offered, with the id of the last message. With a lease: a renewal from the leased address, whose id is the
+-- first word.
 abbrev pub message_under : Settings → ℕ → ℕ → EventWords → Anchor → Transmission
 message_under settings id at words (Loss place) = broadcast_of
-    (discover_message settings.hardware settings.ip_mtu settings.client.parameters settings.client.options words.first)
+    (discover_message settings.hardware settings.ip_mtu settings.client.parameters settings.client.options
+    words.first)
 message_under settings id at words (Offer place since server address) = broadcast_of
     (request_message server.identifier address settings.hardware settings.ip_mtu settings.client.parameters
     settings.client.options id)
 message_under settings id at words (Ack place since granted server) = record {
-  message = renewal_message granted.address.address settings.hardware settings.ip_mtu settings.client.parameters
-      settings.client.options words.first;
+  message = renewal_message granted.address.address settings.hardware settings.ip_mtu
+      settings.client.parameters settings.client.options words.first;
   source = granted.address.address;
   destination = renewal_destination at (lease_times since granted).rebind server;
 }

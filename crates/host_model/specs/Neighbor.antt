@@ -1,5 +1,7 @@
--- The hardware address of the next hop of a datagram (RFC 1122, section 3.3.1), by what ARP packets told (RFC 826).
-use Rattle.std.specs.Prelude.{ℕ, ◌-◌, ◌/◌, ◌^◌, ◌==◌, nat_lt, List, [], ◌∷◌, map, Option, Some, None, replicate, if◌then◌else◌, Bool}
+-- The hardware address of the next hop of a datagram (RFC 1122, section 3.3.1), by what ARP packets told (RFC
+-- 826).
+use Rattle.std.specs.Prelude.{ℕ, ◌-◌, ◌/◌, ◌^◌, ◌==◌, nat_lt, Bool, if◌then◌else◌}
+use Rattle.std.specs.Prelude.{List, [], ◌∷◌, map, Option, Some, None, replicate}
 use Rattle.std.specs.Int.{from_be_bytes, w32}
 use Rattle.net_wire.specs.declared.address.EthernetAddress.{EthernetAddress}
 use Rattle.net_wire.specs.declared.address.Ipv4Address.{Ipv4Address}
@@ -9,7 +11,7 @@ use Rattle.dhcp_client.specs.Hearing.{same_address}
 use Rattle.dhcp_client.specs.Messages.{limited_broadcast}
 use Rattle.host_model.specs.declared.held.Held.{Held}
 use Rattle.host_model.specs.declared.neighbor.Neighbor.{Neighbor}
-use Rattle.host_model.specs.Script.{Arrival, Tick, Reset, Frame, Event}
+use Rattle.host_model.specs.Script.{Arrival, Tick, Reset, Frame, Query, Event}
 use Rattle.host_model.specs.Settings.{Settings}
 use Rattle.host_model.specs.History.{Entry}
 use Rattle.host_model.specs.Lease.{held_before}
@@ -23,12 +25,13 @@ abbrev pub told_to : EthernetAddress → Arrival → Option ArpRepr
 told_to hardware Tick = None
 told_to hardware Reset = None
 told_to hardware (Frame bytes) = arriving_arp hardware bytes
+told_to hardware (Query type_ name) = None
 
 abbrev pub told_by : Settings → Arrival → Option ArpRepr
 told_by settings arrival = told_to settings.hardware arrival
 
--- what a packet tells at a time of the station with an address, and what was known before where it tells nothing
--- of it
+-- what a packet tells at a time of the station with an address, and what was known before where it tells
+-- nothing of it
 abbrev pub or_told : Ipv4Address → ℕ → Option ArpRepr → Option Neighbor → Option Neighbor
 or_told address at None known = known
 or_told address at (Some arp) known =
@@ -55,8 +58,8 @@ abbrev pub is_on_network : Held → Ipv4Address → Bool
 is_on_network held destination =
     front_bits held.address.prefix_len destination == front_bits held.address.prefix_len held.address.address
 
--- the address of the next hop: the destination where it is on the network of the held address, else the router,
--- if there is one; nothing without an address
+-- the address of the next hop: the destination where it is on the network of the held address, else the
+-- router, if there is one; nothing without an address
 abbrev pub hop_address : Option Held → Ipv4Address → Option Ipv4Address
 hop_address None destination = None
 hop_address (Some held) destination = if is_on_network held destination then Some destination else held.router
@@ -73,4 +76,5 @@ events_of entries = map (λ entry. entry.event) entries
 abbrev pub known_hop : Settings → List Entry → Event → Ipv4Address → Option EthernetAddress
 known_hop settings before event destination =
     if same_address destination limited_broadcast then Some ethernet_broadcast
-    else known_at settings (event ∷ events_of before) event.at (hop_address (held_before settings before) destination)
+    else known_at settings (event ∷ events_of before) event.at
+    (hop_address (held_before settings before) destination)

@@ -7,7 +7,8 @@ use Rattle.host_model.specs.Examples.{tick, example_settings}
 use Rattle.host_model.specs.Frames.{Listed, ArpRequest, request_for}
 use Rattle.host_model.specs.Lease.{held_of}
 use Rattle.host_model.specs.LifeExamples.{leasing}
-use Rattle.host_model.specs.Lives.{all_sent, anchor, discovers, frame, frames, granted, leased, life, our_cidr, rebinds, renews, requests, sent_at, server, server_address}
+use Rattle.host_model.specs.Lives.{all_sent, anchor, discovers, frame, frames, granted, leased, life}
+use Rattle.host_model.specs.Lives.{our_cidr, rebinds, renews, requests, sent_at, server, server_address}
 use Rattle.host_model.specs.Neighbor.{ethernet_broadcast}
 use Rattle.host_model.specs.ServerFrames.{ack, arp_reply}
 

@@ -9,8 +9,10 @@ use Rattle.host_model.specs.Chronicle.{history}
 use Rattle.host_model.specs.Examples.{tick, example_settings}
 use Rattle.host_model.specs.Frames.{Listed, ArpReply}
 use Rattle.host_model.specs.LifeExamples.{asking, leasing}
-use Rattle.host_model.specs.Lives.{all_sent, anchor, discovers, frame, frames, granted, leased, life_words, our_address, requests, sent_at, server}
-use Rattle.host_model.specs.ServerFrames.{ack, arp_with, frame_with, grant_header, grant_udp, grant_with, header_with, host, ip_frame, nak, nak_to, udp_with}
+use Rattle.host_model.specs.Lives.{all_sent, anchor, discovers, frame, frames, granted, leased, life_words}
+use Rattle.host_model.specs.Lives.{our_address, requests, sent_at, server}
+use Rattle.host_model.specs.ServerFrames.{ack, arp_with, frame_with, grant_header, grant_udp, grant_with}
+use Rattle.host_model.specs.ServerFrames.{header_with, host, ip_frame, nak, nak_to, udp_with}
 
 abbrev pub with_frame : List Event → List ℕ → List Event
 with_frame before bytes = before ++ frame 0 bytes ∷ []

@@ -8,7 +8,8 @@ use Rattle.host_model.specs.Script.{Reset, Frame}
 use Rattle.host_model.specs.Settings.{Settings}
 use Rattle.host_model.specs.History.{Entry, times_since}
 use Rattle.host_model.specs.Hearing.{heard_at}
-use Rattle.host_model.specs.Anchor.{Anchor, Loss, Offer, Ack, anchor_after_arrival, anchor_before, is_over, place_of}
+use Rattle.host_model.specs.Anchor.{Anchor, Loss, Offer, Ack}
+use Rattle.host_model.specs.Anchor.{anchor_after_arrival, anchor_before, is_over, place_of}
 
 -- the entry at a place among entries, newest first, and those older than it
 pub record IsAt (entries : List Entry) (place : ℕ) (entry : Entry) (older : List Entry) : Type 0 where

@@ -3,6 +3,7 @@ use Rattle.std.specs.Prelude.{◌≡◌, ◌≤◌, List, length}
 use Rattle.std.specs.List.{AllByRecursion}
 use Rattle.net_wire.specs.declared.address.EthernetAddress.{EthernetAddress}
 use Rattle.net_wire.specs.Arp.{IsOnTheWire}
+use Rattle.net_wire.specs.Arrival.{IsSendable}
 use Rattle.net_wire.specs.DhcpBytes.{message_bytes}
 use Rattle.net_wire.specs.DhcpReadBack.{HasFour}
 use Rattle.dhcp_client.specs.Config.{AreSettingsWritable}
@@ -10,7 +11,7 @@ use Rattle.host_model.specs.declared.words.EventWords.{EventWords}
 use Rattle.host_model.specs.Script.{Event}
 use Rattle.host_model.specs.Settings.{Settings}
 use Rattle.host_model.specs.History.{Entry, SentMessage}
-use Rattle.host_model.specs.Frames.{Listed, ArpReply, ArpRequest, Dhcp, frames_of}
+use Rattle.host_model.specs.Frames.{Listed, ArpReply, ArpRequest, Dhcp, Dns, frames_of, query_datagram}
 
 abbrev pub HasSix : EthernetAddress → Type 0
 HasSix station = length station.0 ≡ 6
@@ -27,6 +28,7 @@ abbrev pub FitsFrame : Listed → Type 0
 FitsFrame (ArpReply to arp) = HasSix to × IsOnTheWire arp
 FitsFrame (ArpRequest to arp) = HasSix to × IsOnTheWire arp
 FitsFrame (Dhcp sent) = FitsDatagram sent
+FitsFrame (Dns sent) = HasSix sent.hop × IsSendable (query_datagram sent.ask)
 
 -- All that an event lists does, whatever arrived, where the hardware address has its bytes and the client's
 -- messages can be written.

@@ -17,7 +17,7 @@ abbrev pub AreRising : ℕ → List ℕ → Type 0
 AreRising last [] = ⊤
 AreRising last (at ∷ times) = (last ≤ at) × (at < time_limit) × AreRising at times
 
--- Whatever further kinds of events there are: such bytes are a script of these ticks, and of no other events.
+-- Such bytes are a script of these ticks and of no other events, at most as many as there may be.
 abbrev pub TicksAreScripts : Type 0
 TicksAreScripts = (max : ℕ) (times : List ℕ) → AreRising 0 times → length times ≤ max
     → IsScript max (tick_bytes times) (ticks_at times)

@@ -1,5 +1,6 @@
 //! Laws over the definitions.
 ghost use Rattle.std.specs.Prelude.{◌≡◌, pos, replicate};
+ghost use Rattle.host_model.specs.AnswerExamples.{AnswersByExample, ReachesByExample};
 ghost use Rattle.host_model.specs.Chronicle.{GrowsByEntry};
 ghost use Rattle.host_model.specs.Classes.{IsOneOfThree};
 ghost use Rattle.host_model.specs.Examples.{SendsAtReset, SendsAtEachReset, SendsEveryTimeout};
@@ -7,14 +8,25 @@ ghost use Rattle.host_model.specs.Foreign.{ForeignFramesChangeNothing};
 ghost use Rattle.host_model.specs.ForeignExamples.{ForeignByExample};
 ghost use Rattle.host_model.specs.HopExamples.{NetworksByExample, NeighborsByExample, BroadcastsByExample};
 ghost use Rattle.host_model.specs.Hops.{NetworksArePrefixes, HopsAreNeighbors, HopsAreKnown};
+ghost use Rattle.host_model.specs.KindsAdded.{KindsAreAdded};
+ghost use Rattle.host_model.specs.LastLease.{LeasesAreLastAcknowledgements};
+ghost use Rattle.host_model.specs.LastLeaseExamples.{LeasesLastByExample};
+ghost use Rattle.host_model.specs.LastLoss.{LossesAreLast};
+ghost use Rattle.host_model.specs.LastOffer.{OffersAreLast, ClientsAcceptInTurn};
 ghost use Rattle.host_model.specs.LifeExamples.{RequestsAtOnce, EndsRetries, Leases, EndsAtOnce, LosesByReset};
+ghost use Rattle.host_model.specs.LookExamples.{TurnsByExample, EndsByExample};
 ghost use Rattle.host_model.specs.Parts.{NoEventIsRefused};
+ghost use Rattle.host_model.specs.QueryEnds.{OneLineEach, SlotsAreKept};
+ghost use Rattle.host_model.specs.QueryLifeExamples.{AnswersQuery, CountsQuery, EndsQuery, RefusesQuery};
+ghost use Rattle.host_model.specs.QuerySends.{AskedLast, FourFramesToAPlace, FourMessagesToAPlace, ScriptsRise};
 ghost use Rattle.host_model.specs.RenewalExamples.{Asks, Forgets, Renews, RenewsAtEnd};
 ghost use Rattle.host_model.specs.ReplyExamples.{HearsWholeFrames, Refuses, Replies};
 ghost use Rattle.host_model.specs.Roots.{AnchorsAreRooted};
 ghost use Rattle.host_model.specs.Script.{BeginsWithOne};
 ghost use Rattle.host_model.specs.Sizes.{ListedFitsFrames};
+ghost use Rattle.host_model.specs.StartExamples.{StartsByExample, RequestsByExample, LinesByExample};
 ghost use Rattle.host_model.specs.TickScripts.{TicksAreScripts};
+ghost use Rattle.host_model.specs.WalkExamples.{WalksByExample, UnknownByExample, RequestsOnceByExample};
 
 use net_wire::{EthernetAddress, Instant, Ipv4Address};
 
@@ -37,6 +49,11 @@ pub fn no_event_is_refused()
 /// them and of no other events.
 pub fn ticks_are_scripts()
     ensures { TicksAreScripts }
+{}
+
+/// Queries change the class only of bytes that are broken where one of their kinds stands.
+pub fn kinds_are_added()
+    ensures { KindsAreAdded }
 {}
 
 /// Closed examples: the event of a reset sends at once, and the timeout counts from its message.
@@ -81,6 +98,29 @@ pub fn anchors_are_rooted()
     ensures { AnchorsAreRooted }
 {}
 
+/// After every event the leased address is that of the last accepted acknowledgement, while its lease
+/// runs and nothing took it back, and else there is none.
+pub fn leases_are_last_acknowledgements()
+    ensures { LeasesAreLastAcknowledgements }
+{}
+
+/// After every event the client goes by the last accepted offer, while its requests may still be
+/// answered and nothing took it back.
+pub fn offers_are_last()
+    ensures { OffersAreLast }
+{}
+
+/// Without an offer and a lease the client goes by the start or by the last event that lost what there
+/// was, until an offer comes.
+pub fn losses_are_last()
+    ensures { LossesAreLast }
+{}
+
+/// An acknowledgement is accepted exactly with an offer or a lease, and an offer exactly without both.
+pub fn clients_accept_in_turn()
+    ensures { ClientsAcceptInTurn }
+{}
+
 /// A frame that is not for the host changes nothing: with a tick in its place every event has the
 /// same effect.
 pub fn foreign_frames_change_nothing()
@@ -104,6 +144,12 @@ pub fn leases_begin()
     ensures leases { Leases }
     ensures at_end { EndsAtOnce }
     ensures reset { LosesByReset }
+{}
+
+/// Closed examples: how long the lease of an acknowledgement lasts, and which acknowledgements lease
+/// nothing.
+pub fn leases_last_by_example()
+    ensures { LeasesLastByExample }
 {}
 
 /// Closed examples: a lease is renewed, to the server where its station is known, and ends.
@@ -135,3 +181,64 @@ pub fn moment_zero() -> Instant
 {
     Instant::ZERO
 }
+
+/// Closed examples: when a query is asked, at which server, and when it ends; which slots are looked at,
+/// and what an unknown hop ends.
+pub fn queries_are_looked_at()
+    ensures turns { TurnsByExample }
+    ensures ends { EndsByExample }
+    ensures walks { WalksByExample }
+    ensures unknown { UnknownByExample }
+    ensures requests { RequestsOnceByExample }
+{}
+
+/// Closed examples: which responses reach a query, and which queries they end.
+pub fn queries_are_answered()
+    ensures answers { AnswersByExample }
+    ensures reaches { ReachesByExample }
+{}
+
+/// Closed examples: how queries begin, and in which order those that ended are told of.
+pub fn queries_begin()
+    ensures starts { StartsByExample }
+    ensures requests { RequestsByExample }
+    ensures lines { LinesByExample }
+{}
+
+/// Closed examples: the frames and the lines of queries in whole lives of a host.
+pub fn queries_live()
+    ensures answers { AnswersQuery }
+    ensures ends { EndsQuery }
+    ensures refuses { RefusesQuery }
+    ensures counts { CountsQuery }
+{}
+
+/// The events of a script give entries whose times never fall.
+pub fn scripts_rise()
+    ensures { ScriptsRise }
+{}
+
+/// A query sends at most four messages to one place of its list, by events whose times never fall.
+pub fn four_messages_to_a_place()
+    ensures { FourMessagesToAPlace }
+{}
+
+/// At most four of the frames that events list are of one query and one place, by events whose times never fall.
+pub fn four_frames_to_a_place()
+    ensures { FourFramesToAPlace }
+{}
+
+/// The server that the looks at a query say it asked last is the one that its last message went to.
+pub fn asked_last()
+    ensures { AskedLast }
+{}
+
+/// Each query event has one line among those of all events, or its query still waits.
+pub fn one_line_each()
+    ensures { OneLineEach }
+{}
+
+/// There are always 16 slots, and no two queries that wait have one number.
+pub fn slots_are_kept()
+    ensures { SlotsAreKept }
+{}

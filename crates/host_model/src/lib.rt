@@ -5,8 +5,10 @@
 pub mod held;
 pub mod laws;
 pub mod neighbor;
+pub mod query_line;
 pub mod words;
 
 pub use held::Held;
 pub use neighbor::Neighbor;
+pub use query_line::{Outcome, QueryLine};
 pub use words::EventWords;

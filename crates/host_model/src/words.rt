@@ -5,6 +5,8 @@
 pub struct EventWords {
     /// The id of a DHCP message that begins an exchange.
     pub first: u32,
+    /// The id of a query that the event starts.
     pub second: u32,
+    /// The port of that query.
     pub third: u32,
 }
