@@ -1,11 +1,10 @@
 -- Polling answers an event, whatever is planned.
-use Rattle.std.proofs.Common.{◌≡◌, ◌<◌, ◌⊎◌, inl, inr, ⊎_elim, List, ◌∷◌, length, Bool, true, false, cond, Err, Option, pos, ap, sym, subst, ◌∙◌, refl, arith}
+use Rattle.std.proofs.Common.{◌≡◌, ◌<◌, ◌⊎◌, inl, inr, ⊎_elim, List, ◌∷◌, length, Bool, true, false, cond, Err, pos, ap, sym, subst, ◌∙◌, refl, arith}
 use Rattle.net_wire.specs.declared.error.Context.{Context}
 use Rattle.net_wire.specs.declared.error.EmitError.TheVariants.{Unresolved}
 use Rattle.dhcp_client.specs.Client.{Client, poll_at_of}
 use Rattle.dhcp_client.specs.Plan.{Plan, Restart, plan_for, Dispatched}
 use Rattle.dhcp_client.proofs.PlanLemmas.{waits_in}
-use Rattle.host_model.specs.declared.held.Held.{Held}
 use Rattle.host_model.specs.declared.words.EventWords.{EventWords}
 use Rattle.host_model.specs.Script.{Event, time_limit}
 use Rattle.host_model.specs.Settings.{Settings}
@@ -14,7 +13,7 @@ use Rattle.host_model.specs.Anchor.{Anchor, Loss, anchor_after_time, is_over, pl
 use Rattle.host_model.specs.Named.{message_under}
 use Rattle.net_host.specs.declared.emitter.Emitter.{Emitter}
 use Rattle.net_host.specs.Config.{IsFair}
-use Rattle.net_host.specs.Following.{AgreesUnder, state_with}
+use Rattle.net_host.specs.Following.{AgreesUnder, state_with, Holding}
 use Rattle.net_host.specs.Emitter.{TakesMessage, RefusesMessage}
 use Rattle.net_host.specs.Polling.{Polled, IsQuiet, GoesOn, Waits}
 use Rattle.net_host.proofs.Contexts.{IsContextOf}
@@ -26,7 +25,7 @@ use Rattle.net_host.proofs.PolledLemmas.{took, refused, began_anew, ended}
 use Rattle.net_host.proofs.HistoryLemmas.{Answered, KnowsHops, answered_early, answered_refused, answered_sent}
 
 -- polling under an anchor that is not over
-settled : (settings : Settings) (before : List Entry) (event : Event) (words : EventWords) (anchor : Anchor) (held : Option Held) (cx : Context)
+settled : (settings : Settings) (before : List Entry) (event : Event) (words : EventWords) (anchor : Anchor) (held : Holding) (cx : Context)
     (client last : Client) (out later : Emitter)
     → IsFair settings.client.retry → IsContextOf settings event.at cx → event.at < time_limit
     → is_over settings.client.retry (times_since (place_of anchor) before) event.at anchor ≡ false
@@ -83,6 +82,7 @@ settled settings before event words anchor held cx client last out later fair is
       told = agrees.told;
       placed = agrees.placed;
       sound = agrees.sound;
+      names = agrees.names;
       held_is = agrees.held_is;
     } in
     subst P (sym stays.1)
@@ -97,7 +97,7 @@ settled settings before event words anchor held cx client last out later fair is
     (plans settings before event.at words anchor held client cx fair is_cx in_range agrees)
 
 -- polling under an anchor that is over: it begins anew, and then goes on
-restarted : (settings : Settings) (before : List Entry) (event : Event) (words : EventWords) (anchor : Anchor) (held : Option Held) (cx : Context)
+restarted : (settings : Settings) (before : List Entry) (event : Event) (words : EventWords) (anchor : Anchor) (held : Holding) (cx : Context)
     (client last : Client) (out later : Emitter)
     → IsFair settings.client.retry → IsContextOf settings event.at cx → event.at < time_limit
     → plan_for client cx words.first ≡ Restart
@@ -122,7 +122,7 @@ is_or_not true = inl refl
 is_or_not false = inr refl
 
 -- polling answers an event under the anchor that its time leaves
-pub answered : (settings : Settings) (before : List Entry) (event : Event) (words : EventWords) (anchor : Anchor) (held : Option Held) (cx : Context)
+pub answered : (settings : Settings) (before : List Entry) (event : Event) (words : EventWords) (anchor : Anchor) (held : Holding) (cx : Context)
     (client last : Client) (out later : Emitter)
     → IsFair settings.client.retry → IsContextOf settings event.at cx → event.at < time_limit
     → KnowsHops settings before event out → AgreesUnder settings before anchor held client

@@ -12,26 +12,25 @@ use Rattle.dhcp_client.specs.Client.{Client}
 use Rattle.dhcp_client.specs.Heard.{Heard, Nothing, AnOffer, AnAck, ARefusal, Ear, IsShort, heard_in, heard_of, is_taken}
 use Rattle.dhcp_client.specs.Hearing.{after_offer, after_ack, after_refusal, after_heard, after_bytes, after_message, ear_of, with_packet}
 use Rattle.dhcp_client.proofs.HeardLemmas.{GrantsOrdered, in_grants}
-use Rattle.host_model.specs.declared.held.Held.{Held}
-use Rattle.host_model.specs.Script.{Arrival, Tick, Reset, Frame, time_limit}
+use Rattle.host_model.specs.Script.{Arrival, Tick, Reset, Frame, Query, time_limit}
 use Rattle.host_model.specs.Settings.{Settings}
 use Rattle.host_model.specs.History.{Entry}
 use Rattle.host_model.specs.Hearing.{ear_after, heard_by, is_for_client}
 use Rattle.host_model.specs.Anchor.{Anchor, anchor_after_heard, anchor_after_arrival}
-use Rattle.net_host.specs.Following.{AgreesUnder}
+use Rattle.net_host.specs.Following.{AgreesUnder, Holding}
 use Rattle.net_host.specs.Hearing.{after_datagram, after_arrival, IsShortIn}
 use Rattle.net_host.proofs.Contexts.{IsContextOf}
 use Rattle.net_host.proofs.GrantLemmas.{offered, acknowledged}
 use Rattle.net_host.proofs.LossLemmas.{anew, refused}
 
 -- a client goes by the anchor after what is heard
-abbrev AgreesOnceHeard : Settings → List Entry → ℕ → Heard → Anchor → Option Held → Client → Type 0
+abbrev AgreesOnceHeard : Settings → List Entry → ℕ → Heard → Anchor → Holding → Client → Type 0
 AgreesOnceHeard settings before at heard anchor held client =
     AgreesUnder settings before (anchor_after_heard (length before) at heard anchor) held client
 
 -- what is heard moves the anchor and the client together
 heard_here : (settings : Settings) (before : List Entry) (at : ℕ) (heard : Heard) (anchor : Anchor)
-    (held : Option Held) (client : Client) → at < time_limit → IsShort heard → GrantsOrdered heard
+    (held : Holding) (client : Client) → at < time_limit → IsShort heard → GrantsOrdered heard
     → AgreesUnder settings before anchor held client
     → AgreesOnceHeard settings before at heard anchor held (after_heard heard (pos at) client)
 heard_here settings before at Nothing anchor held client in_range short ordered agrees = agrees
@@ -51,7 +50,7 @@ heard_here settings before at ARefusal anchor held client in_range short ordered
     subst Agrees (sym agrees.state) (refused settings before at anchor held client agrees)
 
 -- that its bytes are kept changes nothing that the relation says
-kept : (settings : Settings) (before : List Entry) (anchor : Anchor) (held : Option Held) (client : Client)
+kept : (settings : Settings) (before : List Entry) (anchor : Anchor) (held : Holding) (client : Client)
     (bytes : List ℕ) (test : Bool) → AgreesUnder settings before anchor held client
     → AgreesUnder settings before anchor held (cond test (with_packet bytes client) client)
 kept settings before anchor held client bytes true agrees = record {
@@ -60,11 +59,12 @@ kept settings before anchor held client bytes true agrees = record {
   told = agrees.told;
   placed = agrees.placed;
   sound = agrees.sound;
+  names = agrees.names;
   held_is = agrees.held_is;
 }
 kept settings before anchor held client bytes false agrees = agrees
 
-message_heard : (settings : Settings) (before : List Entry) (at : ℕ) (anchor : Anchor) (held : Option Held)
+message_heard : (settings : Settings) (before : List Entry) (at : ℕ) (anchor : Anchor) (held : Holding)
     (cx : Context) (client : Client) (source : Ipv4Address) (bytes : List ℕ) (message : Option Message)
     → IsContextOf settings at cx → at < time_limit → IsShort (heard_of (ear_of client cx) source message)
     → AgreesUnder settings before anchor held client
@@ -83,7 +83,7 @@ message_heard settings before at anchor held cx client source bytes (Some messag
     (kept settings before anchor held client bytes (is_taken (ear_of client cx) message) agrees))
 
 -- a datagram between other ports is not heard
-by_ports : (settings : Settings) (before : List Entry) (at : ℕ) (anchor : Anchor) (held : Option Held)
+by_ports : (settings : Settings) (before : List Entry) (at : ℕ) (anchor : Anchor) (held : Holding)
     (client next : Client) (heard : Heard) (test : Bool) → IsShort (cond test heard Nothing)
     → AgreesUnder settings before anchor held client
     → (IsShort heard → AgreesOnceHeard settings before at heard anchor held next)
@@ -91,7 +91,7 @@ by_ports : (settings : Settings) (before : List Entry) (at : ℕ) (anchor : Anch
 by_ports settings before at anchor held client next heard true short agrees once = once short
 by_ports settings before at anchor held client next heard false short agrees once = agrees
 
-datagram_heard : (settings : Settings) (before : List Entry) (at : ℕ) (anchor : Anchor) (held : Option Held)
+datagram_heard : (settings : Settings) (before : List Entry) (at : ℕ) (anchor : Anchor) (held : Holding)
     (cx : Context) (client : Client) (datagram : Option Datagram)
     → IsContextOf settings at cx → at < time_limit → IsShort (heard_by (ear_of client cx) datagram)
     → AgreesUnder settings before anchor held client
@@ -108,7 +108,7 @@ datagram_heard settings before at anchor held cx client (Some datagram) is_cx in
     message is_cx in_range heard_short agrees)
 
 -- the client hears by what its history says
-same_ear : (settings : Settings) (before : List Entry) (at : ℕ) (anchor : Anchor) (held : Option Held)
+same_ear : (settings : Settings) (before : List Entry) (at : ℕ) (anchor : Anchor) (held : Holding)
     (cx : Context) (client : Client)
     → IsContextOf settings at cx → AgreesUnder settings before anchor held client
     → ear_of client cx ≡ ear_after settings before
@@ -116,12 +116,13 @@ same_ear settings before at anchor held cx client is_cx agrees =
     rw (is_cx.hardware, agrees.id, agrees.told) refl
 
 pub heard : (settings : Settings) (before : List Entry) (at : ℕ) (arrival : Arrival) (anchor : Anchor)
-    (held : Option Held) (cx : Context) (client : Client)
+    (held : Holding) (cx : Context) (client : Client)
     → IsContextOf settings at cx → at < time_limit → IsShortIn cx arrival client
     → AgreesUnder settings before anchor held client
     → AgreesUnder settings before (anchor_after_arrival settings before at arrival anchor) held
     (after_arrival cx arrival client)
 heard settings before at Tick anchor held cx client is_cx in_range short agrees = agrees
+heard settings before at (Query type_ name) anchor held cx client is_cx in_range short agrees = agrees
 heard settings before at Reset anchor held cx client is_cx in_range short agrees =
     anew settings before anchor held client agrees
 heard settings before at (Frame bytes) anchor held cx client is_cx in_range short agrees =

@@ -15,7 +15,7 @@ use Rattle.dhcp_client.specs.Hearing.{after_offer, after_ack, after_refusal, aft
 use Rattle.dhcp_client.specs.Hearing.{after_message, ear_of, with_packet}
 use Rattle.dhcp_client.proofs.HeardLemmas.{message_ordered}
 use Rattle.host_model.specs.Hearing.{is_for_client}
-use Rattle.host_model.specs.Script.{Arrival, Tick, Reset, Frame}
+use Rattle.host_model.specs.Script.{Arrival, Tick, Reset, Frame, Query}
 use Rattle.net_host.specs.Hearing.{after_arrival, after_datagram}
 use Rattle.net_host.specs.Polling.{IsReady}
 use Rattle.net_host.proofs.ReadyLemmas.{ready_with}
@@ -77,6 +77,7 @@ datagram_ready cx (Some datagram) client ip_mtu ready =
 pub arrival_ready : (cx : Context) (arrival : Arrival) (client : Client) (ip_mtu : ℕ)
     → IsReady client ip_mtu → IsReady (after_arrival cx arrival client) ip_mtu
 arrival_ready cx Tick client ip_mtu ready = ready
+arrival_ready cx (Query type_ name) client ip_mtu ready = ready
 arrival_ready cx Reset client ip_mtu ready =
     record { ordered = tt; timeouts = ready.timeouts; writable = ready.writable }
 arrival_ready cx (Frame bytes) client ip_mtu ready =

@@ -1,6 +1,7 @@
 -- Configurations that compare as equal give a host the same to hold.
-use Rattle.std.proofs.Common.{◌≡◌, ℕ, true, List, Option, Some, None, ◌&&◌, ap, ◌∙◌, refl}
+use Rattle.std.proofs.Common.{◌≡◌, ℕ, true, List, [], ◌∷◌, Option, Some, None, ◌&&◌, ap, ap₂, ◌∙◌, refl}
 use Rattle.std.proofs.lemmas.Bool.{and_parts, eqb-true, false≢true}
+use Rattle.std.specs.Cmp.Lexicographic.{pointwise}
 use Rattle.std.proofs.lemmas.Slice.Eq.{bytes_eq-Decides}
 use Rattle.net_wire.specs.declared.address.Ipv4Address.{Ipv4Address}
 use Rattle.net_wire.specs.declared.address.Ipv4Cidr.{Ipv4Cidr}
@@ -44,3 +45,19 @@ held_is lease servers granted same =
     let router : lease.router ≡ granted.router = router_is lease.router granted.router both.1 in
     ap (λ (a : Ipv4Cidr). held_with a lease.router) address
     ∙ ap (λ (r : Option Ipv4Address). held_with granted.address r) router
+
+same_list : (one other : List Ipv4Address) → pointwise same_address one other ≡ true → one ≡ other
+same_list [] [] same = refl
+same_list [] (address ∷ other) same = absurd (false≢true same)
+same_list (address ∷ one) [] same = absurd (false≢true same)
+same_list (first ∷ one) (second ∷ other) same =
+    let parts = and_parts (same_address first second) (pointwise same_address one other) same in
+    ap₂ (λ (address : Ipv4Address) (more : List Ipv4Address). address ∷ more) (address_is first second parts.0) (same_list one other parts.1)
+
+-- and the same name servers
+pub servers_are : (lease : Lease) (servers : List Ipv4Address) (granted : Granted)
+    → is_same_config lease servers granted ≡ true → servers ≡ granted.dns_servers
+servers_are lease servers granted same =
+    same_list servers granted.dns_servers
+    (and_parts (same_cidr lease.address granted.address && same_router lease.router granted.router)
+    (pointwise same_address servers granted.dns_servers) same).1

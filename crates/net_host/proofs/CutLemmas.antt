@@ -8,8 +8,9 @@ use Rattle.net_wire.proofs.SentFrameLemmas.{one_sent_frame}
 use Rattle.frame_laws.specs.SentArp.{IsCutIntoArp}
 use Rattle.frame_laws.proofs.ArpLemmas.{arp_cut_as_sent}
 use Rattle.frame_laws.proofs.SentLemmas.{cut_as_sent}
-use Rattle.host_model.specs.Frames.{Listed, ArpReply, ArpRequest, Dhcp, frames_of}
+use Rattle.host_model.specs.Frames.{Listed, ArpReply, ArpRequest, Dhcp, Dns, frames_of, query_datagram}
 use Rattle.host_model.specs.History.{Entry, SentMessage}
+use Rattle.host_model.specs.QueryLooks.{SentAsk}
 use Rattle.host_model.specs.Settings.{Settings}
 use Rattle.host_model.specs.Sizes.{FitsDatagram, FitsFrame, HasSix}
 use Rattle.host_model.proofs.ListedSizeLemmas.{frames_fit}
@@ -17,8 +18,9 @@ use Rattle.net_host.specs.declared.report.Mark.TheVariants as mark
 use Rattle.net_host.specs.declared.report.Row.{Row}
 use Rattle.net_host.specs.declared.report.Sent.{Sent}
 use Rattle.net_host.specs.Config.{CanRun}
-use Rattle.net_host.specs.Listed.{AreListed, IsFrameOf, IsListed, datagram_for, sent_with}
+use Rattle.net_host.specs.Listed.{AreListed, IsFrameOf, IsFrameOfQuery, IsListed, datagram_for, sent_with}
 use Rattle.net_host.specs.ListedCut.{AreCutInto, HasWidths, IsCutInto}
+use Rattle.net_host.specs.QueryEmitter.{query_sent}
 use Rattle.net_host.specs.Rows.{IsRowOf}
 
 arp_is_cut : (from to : EthernetAddress) (arp : ArpRepr) → HasSix from → HasSix to → IsOnTheWire arp
@@ -40,6 +42,18 @@ module _ (settings : Settings) (widths : HasWidths settings) where
       })
       is
 
+  query_is_cut : (ask : SentAsk) (frame : List ℕ) → FitsFrame (Dns ask) → IsFrameOfQuery settings ask frame
+      → IsCutInto settings (Dns ask) frame
+  query_is_cut ask frame fits is =
+      cut_as_sent settings.hardware ask.hop 64 (query_datagram ask.ask) frame
+      (record {
+        stations = (widths.hardware, fits.0);
+        hosts = (fits.1.source, fits.1.destination);
+        ports = (fits.1.source_port, fits.1.destination_port);
+        payload = fits.1.payload;
+      })
+      is
+
   is_cut : (one : Listed) (sent : Sent) → FitsFrame one → IsListed settings one sent
       → IsCutInto settings one sent.frame
   is_cut (ArpReply to arp) sent fits is =
@@ -51,6 +65,8 @@ module _ (settings : Settings) (widths : HasWidths settings) where
   is_cut (Dhcp message) sent fits is =
       subst (λ (s : Sent). IsCutInto settings (Dhcp message) s.frame) (sym is.1)
       (message_is_cut message is.0 fits is.2)
+  is_cut (Dns ask) sent fits is =
+      subst (λ (s : Sent). IsCutInto settings (Dns ask) s.frame) (sym is.1) (query_is_cut ask is.0 fits is.2)
 
   are_cut : (listed : List Listed) (sent : List Sent) → AllByRecursion FitsFrame listed
       → AreListed settings listed sent → AreCutInto settings listed sent
@@ -77,6 +93,11 @@ one_by_one settings (Dhcp message) sent other fits is also_is =
     one_sent_frame settings.hardware message.hop 64 (datagram_for settings message.transmission) fits.source
     fits.destination is.0 also_is.0 is.2 also_is.2 in
     is.1 ∙ ap (sent_with mark.Dhcp) same ∙ sym also_is.1
+one_by_one settings (Dns ask) sent other fits is also_is =
+    let same : is.0 ≡ also_is.0 =
+    one_sent_frame settings.hardware ask.hop 64 (query_datagram ask.ask) fits.1.source fits.1.destination is.0
+    also_is.0 is.2 also_is.2 in
+    is.1 ∙ ap (query_sent ask.ask.query ask.ask.place) same ∙ sym also_is.1
 
 pub one_listing : (settings : Settings) (listed : List Listed) (sent other : List Sent)
     → AllByRecursion FitsFrame listed → AreListed settings listed sent → AreListed settings listed other

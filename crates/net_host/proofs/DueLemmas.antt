@@ -1,12 +1,11 @@
 -- What a client plans that goes by an anchor, and when it is polled next.
-use Rattle.std.proofs.Common.{◌≡◌, ℕ, ◌<◌, ⊎_elim, List, None, pos, ap, sym, subst, ◌∙◌, Option}
+use Rattle.std.proofs.Common.{◌≡◌, ℕ, ◌<◌, ⊎_elim, List, None, pos, ap, sym, subst, ◌∙◌}
 use Rattle.net_wire.specs.declared.error.Context.{Context}
 use Rattle.dhcp_client.specs.Client.{Client, poll_at_of}
 use Rattle.dhcp_client.specs.Config.{ClientSettings}
 use Rattle.dhcp_client.specs.declared.state.ClientState.{ClientState}
 use Rattle.dhcp_client.specs.Messages.{limited_broadcast}
 use Rattle.dhcp_client.specs.Plan.{Plan, plan_for, plan_in}
-use Rattle.host_model.specs.declared.held.Held.{Held}
 use Rattle.host_model.specs.declared.words.EventWords.{EventWords}
 use Rattle.host_model.specs.Script.{time_limit}
 use Rattle.host_model.specs.Settings.{Settings}
@@ -16,12 +15,12 @@ use Rattle.host_model.specs.Named.{message_under}
 use Rattle.net_host.specs.declared.emitter.Emitter.{Emitter}
 use Rattle.net_host.specs.Config.{IsFair}
 use Rattle.net_host.specs.Emitter.{hop_by}
-use Rattle.net_host.specs.Following.{AgreesUnder, state_under}
+use Rattle.net_host.specs.Following.{AgreesUnder, state_under, Holding}
 use Rattle.net_host.proofs.Contexts.{IsContextOf}
 use Rattle.net_host.proofs.PlannedLemmas.{Planned, PlansMessage, planned, polled_under, poll_at_is}
 
 -- what a client plans that goes by an anchor
-plan_is : (settings : Settings) (before : List Entry) (anchor : Anchor) (held : Option Held) (client : Client) (cx : Context) (word : ℕ)
+plan_is : (settings : Settings) (before : List Entry) (anchor : Anchor) (held : Holding) (client : Client) (cx : Context) (word : ℕ)
     → AgreesUnder settings before anchor held client
     → plan_for client cx word ≡ plan_in (state_under settings before anchor) settings.client (last_id before) cx word
 plan_is settings before anchor held client cx word agrees =
@@ -29,7 +28,7 @@ plan_is settings before anchor held client cx word agrees =
     ∙ ap (λ (t : ClientSettings). plan_in (state_under settings before anchor) t client.transaction_id cx word) agrees.told
     ∙ ap (λ id. plan_in (state_under settings before anchor) settings.client id cx word) agrees.id
 
-pub plans : (settings : Settings) (before : List Entry) (at : ℕ) (words : EventWords) (anchor : Anchor) (held : Option Held) (client : Client) (cx : Context)
+pub plans : (settings : Settings) (before : List Entry) (at : ℕ) (words : EventWords) (anchor : Anchor) (held : Holding) (client : Client) (cx : Context)
     → IsFair settings.client.retry → IsContextOf settings at cx → at < time_limit → AgreesUnder settings before anchor held client
     → Planned settings (times_since (place_of anchor) before) at (last_id before) words anchor (plan_for client cx words.first)
 plans settings before at words anchor held client cx fair is_cx in_range agrees =
@@ -38,7 +37,7 @@ plans settings before at words anchor held client cx fair is_cx in_range agrees 
     (planned settings (times_since (place_of anchor) before) at words anchor (last_id before) cx fair is_cx in_range agrees.sound)
 
 -- when it is polled next
-pub poll_is : (settings : Settings) (before : List Entry) (anchor : Anchor) (held : Option Held) (client : Client)
+pub poll_is : (settings : Settings) (before : List Entry) (anchor : Anchor) (held : Holding) (client : Client)
     → AgreesUnder settings before anchor held client
     → poll_at_of client.state ≡ pos (polled_under settings.client.retry (times_since (place_of anchor) before) anchor)
 poll_is settings before anchor held client agrees =

@@ -2,7 +2,7 @@
 use Rattle.std.proofs.Common.{◌≡◌, ℕ, List, [], ◌∷◌, ◌++◌, pos, subst, sym, ◌∙◌}
 use Rattle.std.specs.List.{AllByRecursion}
 use Rattle.host_model.specs.Foreign.{Effect, IsForeign, effects_from}
-use Rattle.host_model.specs.Chronicle.{entry_at}
+use Rattle.host_model.specs.Chronicle.{entry_at, history}
 use Rattle.host_model.specs.History.{Entry}
 use Rattle.host_model.specs.Script.{Tick, Frame, Event}
 use Rattle.host_model.specs.Settings.{Settings}
@@ -22,6 +22,7 @@ record Says (settings : Settings) (effect : Effect) (row : Row) : Type 0 where
   time : row.at ≡ pos effect.at
   lease : row.lease ≡ effect.leased
   sent : AreListed settings effect.frames row.sent
+  lines : row.lines ≡ effect.lines
   fits : AllByRecursion FitsFrame effect.frames
 
 abbrev AllSay : Settings → List Effect → List Row → Type 0
@@ -43,6 +44,7 @@ rows_say settings widths can words before (event ∷ events) (row ∷ rows) are 
         time = are.0.time;
         lease = are.0.lease;
         sent = are.0.sent;
+        lines = are.0.lines;
         fits = frames_fit settings widths.hardware can.writable before event entry.words;
       },
       rows_say settings widths can words (entry ∷ before) events rows are.1,
@@ -60,12 +62,14 @@ say_the_same settings (effect ∷ effects) (row ∷ rows) (other ∷ others) say
     time = say.0.time ∙ sym also_say.0.time;
     lease = say.0.lease ∙ sym also_say.0.lease;
     sent = one_listing settings effect.frames row.sent other.sent say.0.fits say.0.sent also_say.0.sent;
+    lines = say.0.lines ∙ sym also_say.0.lines;
   },
   say_the_same settings effects rows others say.1 also_say.1,
 )
 
 pub rows_stay : (settings : Settings) → HasWidths settings → CanRun settings
-    → (words : List ℕ) (earlier later : List Event) (at : ℕ) (bytes : List ℕ) → IsForeign settings bytes
+    → (words : List ℕ) (earlier later : List Event) (at : ℕ) (bytes : List ℕ)
+    → IsForeign settings (history settings words earlier) bytes
     → (rows others : List Row)
     → AreRows settings words (earlier ++ record { at = at; arrival = Frame bytes } ∷ later) rows
     → AreRows settings words (earlier ++ record { at = at; arrival = Tick } ∷ later) others

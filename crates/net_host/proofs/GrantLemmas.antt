@@ -1,7 +1,8 @@
 -- A client that hears an offer or an acknowledgement goes by it.
-use Rattle.std.proofs.Common.{◌≡◌, ℕ, ◌+◌, ◌-◌, ◌^◌, ◌<◌, Bool, true, false, cond, ◌||◌, not, List, [], Option, Some, pos, length, ap, ◌∙◌, refl, arith}
+use Rattle.std.proofs.Common.{◌≡◌, ℕ, ◌+◌, ◌-◌, ◌^◌, ◌<◌, Bool, true, false, cond, ◌||◌, not, List, [], Option, Some, pos, length, ap, sym, ◌∙◌, refl, arith}
 use Rattle.std.proofs.lemmas.Bool.{true≢false, not-false, or_parts, le-ltb}
 use Rattle.std.specs.Option.{is_some}
+use Rattle.net_wire.specs.declared.address.IpAddress.{IpAddress}
 use Rattle.net_wire.specs.declared.address.Ipv4Address.{Ipv4Address}
 use Rattle.net_wire.specs.Time.{instant_after}
 use Rattle.dhcp_client.specs.declared.retry.RetryConfig.{RetryConfig}
@@ -17,12 +18,13 @@ use Rattle.host_model.specs.Settings.{Settings}
 use Rattle.host_model.specs.History.{Entry, times_since}
 use Rattle.host_model.specs.Anchor.{Anchor, Loss, Offer, Ack, anchor_after_heard, lease_times}
 use Rattle.host_model.specs.Lease.{held_of}
-use Rattle.net_host.specs.Following.{AgreesUnder, IsGrantSound, lease_with, state_under}
-use Rattle.net_host.proofs.ConfigLemmas.{held_is}
+use Rattle.host_model.specs.Queries.{first_servers}
+use Rattle.net_host.specs.Following.{AgreesUnder, IsGrantSound, lease_with, state_under, Holding}
+use Rattle.net_host.proofs.ConfigLemmas.{held_is, servers_are}
 use Rattle.net_host.proofs.LossLemmas.{set_here}
 
 -- an offer is requested at once
-pub offered : (settings : Settings) (before : List Entry) (at : ℕ) (anchor : Anchor) (held : Option Held)
+pub offered : (settings : Settings) (before : List Entry) (at : ℕ) (anchor : Anchor) (held : Holding)
     (client : Client) (server : ServerInfo) (address : Ipv4Address) → at < time_limit
     → AgreesUnder settings before anchor held client
     → AgreesUnder settings before (anchor_after_heard (length before) at (AnOffer server address) anchor) held
@@ -33,6 +35,7 @@ offered settings before at (Loss place) held client server address in_range agre
   told = agrees.told;
   placed = omega arith;
   sound = in_range;
+  names = agrees.names;
   held_is = agrees.held_is;
 }
 offered settings before at (Offer place since old asked) held client server address in_range agrees = agrees
@@ -57,10 +60,17 @@ lease_here retry at granted server sound =
       span_after at granted.times.end sound.in_range sound.short,
     ) refl
 
+-- what is held of a lease that was granted
+abbrev holding_of : Option Held → List IpAddress → Holding
+holding_of held servers = record { held = held; servers = servers }
+
+abbrev holding_with : Granted → Holding
+holding_with granted = holding_of (Some (held_of granted)) (first_servers granted.dns_servers)
+
 -- a client with the lease that is granted here
-leased : (settings : Settings) (before : List Entry) (at : ℕ) (anchor : Anchor) (held : Option Held)
+leased : (settings : Settings) (before : List Entry) (at : ℕ) (anchor : Anchor) (held : Holding)
     (client : Client) (server : ServerInfo) (granted : Granted) (changed : Bool) → IsGrantSound at granted
-    → AgreesUnder settings before anchor held client → (changed ≡ false → held ≡ Some (held_of granted))
+    → AgreesUnder settings before anchor held client → (changed ≡ false → held ≡ holding_with granted)
     → AgreesUnder settings before (Ack (length before) at granted server) held
     (with_lease client server granted (pos at) changed)
 leased settings before at anchor held client server granted changed sound agrees is = record {
@@ -70,6 +80,7 @@ leased settings before at anchor held client server granted changed sound agrees
   told = agrees.told;
   placed = omega arith;
   sound = sound;
+  names = refl;
   held_is = is;
 }
 
@@ -80,22 +91,25 @@ lease_under settings before place since granted server =
 
 -- a renewed lease for which no change waits gives what is held
 same_held : (settings : Settings) (before : List Entry) (place since : ℕ) (old granted : Granted)
-    (server : ServerInfo) (held : Option Held) (client : Client)
-    → (client.changed ≡ false → held ≡ Some (held_of old))
+    (server : ServerInfo) (held : Holding) (client : Client)
+    → (client.changed ≡ false → held ≡ holding_with old) → first_servers client.dns_servers ≡ first_servers old.dns_servers
     → (client.changed
     || not (is_same_config (lease_under settings before place since old server) client.dns_servers granted)
     || is_some client.packet)
     ≡ false
-    → held ≡ Some (held_of granted)
-same_held settings before place since old granted server held client is none =
+    → held ≡ holding_with granted
+same_held settings before place since old granted server held client is names none =
     let lease : Lease = lease_under settings before place since old server in
     let same = is_same_config lease client.dns_servers granted in
     let unkept = or_parts (client.changed || not same) (is_some client.packet) none in
     let parts = or_parts client.changed (not same) unkept.0 in
+    let alike = not-false same parts.1 in
     is parts.0
-    ∙ ap (λ (h : Held). Some h) (held_is lease client.dns_servers granted (not-false same parts.1))
+    ∙ ap (λ (h : Held). holding_of (Some h) (first_servers old.dns_servers)) (held_is lease client.dns_servers granted alike)
+    ∙ ap (λ servers. holding_of (Some (held_of granted)) servers)
+    (sym names ∙ ap first_servers (servers_are lease client.dns_servers granted alike))
 
-pub acknowledged : (settings : Settings) (before : List Entry) (at : ℕ) (anchor : Anchor) (held : Option Held)
+pub acknowledged : (settings : Settings) (before : List Entry) (at : ℕ) (anchor : Anchor) (held : Holding)
     (client : Client) (granted : Granted) → IsGrantSound at granted
     → AgreesUnder settings before anchor held client
     → AgreesUnder settings before (anchor_after_heard (length before) at (AnAck granted) anchor) held
@@ -106,4 +120,4 @@ acknowledged settings before at (Offer place since server address) held client g
     (λ none. absurd (true≢false none))
 acknowledged settings before at (Ack place since old server) held client granted sound agrees =
     leased settings before at (Ack place since old server) held client server granted _ sound agrees
-    (λ none. same_held settings before place since old granted server held client agrees.held_is none)
+    (λ none. same_held settings before place since old granted server held client agrees.held_is agrees.names none)

@@ -1,11 +1,10 @@
 -- The polling of a client that goes by an anchor sends what the history names under it, and leaves a client that does so again.
-use Rattle.std.proofs.Common.{◌≡◌, ◌<◌, ◌≤◌, List, [], ◌∷◌, ◌++◌, true, false, cond, ltb, Option, Some, None, ap, sym, subst, refl, ◌∙◌, arith, rules, tests}
+use Rattle.std.proofs.Common.{◌≡◌, ◌<◌, ◌≤◌, List, ◌∷◌, true, false, cond, ltb, Option, Some, None, ap, sym, subst, refl, ◌∙◌, arith, rules, tests}
 use Rattle.std.specs.Option.{option_map}
 use Rattle.net_wire.specs.declared.address.EthernetAddress.{EthernetAddress}
 use Rattle.net_wire.specs.declared.address.Ipv4Address.{Ipv4Address}
 use Rattle.net_wire.specs.Datagram.{IsSentFrame}
 use Rattle.dhcp_client.specs.Client.{Client}
-use Rattle.host_model.specs.declared.held.Held.{Held}
 use Rattle.host_model.specs.declared.words.EventWords.{EventWords}
 use Rattle.host_model.specs.Script.{Event}
 use Rattle.host_model.specs.Settings.{Settings}
@@ -17,7 +16,7 @@ use Rattle.host_model.specs.Chronicle.{sent_by}
 use Rattle.host_model.proofs.SinceLemmas.{more_since}
 use Rattle.net_host.specs.declared.emitter.Emitter.{Emitter}
 use Rattle.net_host.specs.Emitter.{TakesMessage, RefusesMessage, hop_by}
-use Rattle.net_host.specs.Following.{AgreesUnder, state_with}
+use Rattle.net_host.specs.Following.{AgreesUnder, state_with, Holding}
 use Rattle.net_host.specs.Listed.{datagram_for}
 use Rattle.net_host.proofs.Leaving.{sent_to, Leaves, LeavesOne}
 use Rattle.net_host.proofs.PlannedLemmas.{outgoing_for}
@@ -32,7 +31,7 @@ entry_under settings before event words anchor = record {
 
 -- what an event leaves: a client that goes by the anchor, and the frame that its entry names
 pub record Answered (settings : Settings) (before : List Entry) (event : Event) (words : EventWords) (anchor : Anchor)
-    (held : Option Held) (last : Client) (out later : Emitter) : Type 0 where
+    (held : Holding) (last : Client) (out later : Emitter) : Type 0 where
   pub agrees : AgreesUnder settings (entry_under settings before event words anchor ∷ before) anchor held last
   pub leaves : Leaves settings (known_hop settings before event) (named_under settings before event words anchor) out later
 
@@ -42,7 +41,7 @@ pub record KnowsHops (settings : Settings) (before : List Entry) (event : Event)
   pub hops : (destination : Ipv4Address) → hop_by out destination ≡ known_hop settings before event destination
 
 -- an event in which nothing was sent leaves a client that goes by the anchor
-unsent : (settings : Settings) (before : List Entry) (entry : Entry) (anchor : Anchor) (held : Option Held) (client : Client) → entry.sent ≡ None
+unsent : (settings : Settings) (before : List Entry) (entry : Entry) (anchor : Anchor) (held : Holding) (client : Client) → entry.sent ≡ None
     → AgreesUnder settings before anchor held client → AgreesUnder settings (entry ∷ before) anchor held client
 unsent settings before entry anchor held client none agrees =
     let since = more_since (place_of anchor) before entry agrees.placed in
@@ -53,6 +52,7 @@ unsent settings before entry anchor held client none agrees =
       told = agrees.told;
       placed = omega (arith, agrees.placed);
       sound = agrees.sound;
+      names = agrees.names;
       held_is = agrees.held_is;
     }
 
@@ -72,7 +72,7 @@ named_late settings before event words anchor late =
     ap (λ b. cond b None (Some (message_under settings (last_id before) event.at words anchor))) test
 
 -- nothing is due
-pub answered_early : (settings : Settings) (before : List Entry) (event : Event) (words : EventWords) (anchor : Anchor) (held : Option Held)
+pub answered_early : (settings : Settings) (before : List Entry) (event : Event) (words : EventWords) (anchor : Anchor) (held : Holding)
     (client : Client) (out : Emitter)
     → event.at < due_under settings.client.retry (times_since (place_of anchor) before) anchor
     → AgreesUnder settings before anchor held client → Answered settings before event words anchor held client out out
@@ -86,7 +86,7 @@ answered_early settings before event words anchor held client out early agrees =
     }
 
 -- the message is due, and its hop is not known
-pub answered_refused : (settings : Settings) (before : List Entry) (event : Event) (words : EventWords) (anchor : Anchor) (held : Option Held)
+pub answered_refused : (settings : Settings) (before : List Entry) (event : Event) (words : EventWords) (anchor : Anchor) (held : Holding)
     (client : Client) (out later : Emitter)
     → due_under settings.client.retry (times_since (place_of anchor) before) anchor ≤ event.at → KnowsHops settings before event out
     → RefusesMessage out later (outgoing_for settings (message_under settings (last_id before) event.at words anchor))
@@ -104,7 +104,7 @@ answered_refused settings before event words anchor held client out later late k
     }
 
 -- the message is due, and was sent
-pub answered_sent : (settings : Settings) (before : List Entry) (event : Event) (words : EventWords) (anchor : Anchor) (held : Option Held)
+pub answered_sent : (settings : Settings) (before : List Entry) (event : Event) (words : EventWords) (anchor : Anchor) (held : Holding)
     (client : Client) (out later : Emitter)
     → due_under settings.client.retry (times_since (place_of anchor) before) anchor ≤ event.at → KnowsHops settings before event out
     → TakesMessage out later (outgoing_for settings (message_under settings (last_id before) event.at words anchor))
@@ -134,6 +134,7 @@ answered_sent settings before event words anchor held client out later late know
         told = agrees.told;
         placed = omega (arith, agrees.placed);
         sound = agrees.sound;
+        names = agrees.names;
         held_is = agrees.held_is;
       };
       leaves = subst P (sym some) (subst Q (sym known) (taken.frame, subst R knows.hardware taken.carries, taken.listed));

@@ -10,6 +10,7 @@ use Rattle.host_model.specs.History.{Entry}
 use Rattle.host_model.specs.Frames.{frames_of}
 use Rattle.host_model.specs.Lease.{held_before}
 use Rattle.host_model.specs.Named.{named_message}
+use Rattle.host_model.specs.Queries.{lines_at}
 use Rattle.host_model.specs.Neighbor.{known_hop, told_by}
 use Rattle.host_model.specs.Chronicle.{entry_at, entry_of, words_at}
 use Rattle.net_host.specs.declared.host.Handled.{Handled}
@@ -25,18 +26,18 @@ use Rattle.net_host.specs.Rows.{kind_of, IsNoteFor, IsRowOf}
 use Rattle.net_host.specs.Listed.{AreListed}
 use Rattle.net_host.specs.Config.{CanRun}
 use Rattle.net_host.specs.Taking.{Standing, standing, PlacesRow}
-use Rattle.net_host.proofs.MarkedLemmas.{marked}
+use Rattle.net_host.proofs.MarkedLemmas.{all_marked}
 
 -- the row of an event, placed and then filled in
 abbrev pub place_row : (at : ℤ) (event : ScriptEvent) (words : EventWords) (host_old host_new : Host) (captured_old captured_new : Option (List ℕ))
     (report_old begun report_new : List Row) (kind : Kind) (note : Option FrameNote) (lease : Option Ipv4Cidr) (handled : Handled)
     → begun ≡ report_old ++ new_row at kind note lease ∷ []
     → ((rows : List Row) (row : Row) → begun ≡ rows ++ row ∷ []
-    → report_new ≡ rows ++ record row { lease = handled.lease; sent = handled.sent } ∷ [])
+    → report_new ≡ rows ++ record row { lease = handled.lease; sent = handled.sent; lines = handled.lines } ∷ [])
     → kind ≡ kind_of (arrival_of event) → IsNoteFor (arrival_of event) note → HandlesEvent at event words host_old host_new handled
     → PlacesRow at event words (standing host_old captured_old report_old) (standing host_new captured_new report_new)
 place_row at event words host_old host_new captured_old captured_new report_old begun report_new kind note lease handled begins fills is_kind is_note handles = record {
-  row = record { at = at; kind = kind; note = note; lease = handled.lease; sent = handled.sent };
+  row = record { at = at; kind = kind; note = note; lease = handled.lease; sent = handled.sent; lines = handled.lines };
   placed = fills report_old (new_row at kind note lease) begins;
   time = refl;
   kind = is_kind;
@@ -59,6 +60,7 @@ placed settings words before at event drawn old new places is_time can agrees ar
     ap (entry_of settings before (event_at at event)) are_drawn in
     let P : Entry → Type 0 = λ entry. AgreesWithHistory settings (entry ∷ before) new.host in
     let Q : Entry → Type 0 = λ entry. AreListed settings (frames_of settings before entry.event entry.words) places.row.sent in
+    let L : Entry → Type 0 = λ entry. places.row.lines ≡ lines_at settings before entry.event entry.words in
     let sent = subst Q is_entry handled.frames in
     let e = event_at at event in
     record {
@@ -68,8 +70,9 @@ placed settings words before at event drawn old new places is_time can agrees ar
         note = places.note;
         lease = handled.lease;
         sent = sent;
-        dhcp = marked settings (held_before settings before) (told_by settings e.arrival) (known_hop settings before e)
-            (named_message settings before e (words_at words (length before))) places.row.sent sent;
+        dhcp = all_marked settings (held_before settings before) (told_by settings e.arrival) (known_hop settings before e)
+            (named_message settings before e (words_at words (length before))) _ _ places.row.sent sent;
+        lines = subst L is_entry handled.lines;
       };
       agrees = subst P is_entry handled.agrees;
     }

@@ -69,3 +69,23 @@ polled_table cx word client last out later (GoesOn _ _ _ next _ _ mid _ due done
     polled_table cx word next last mid later more ∙ dispatched_table (plan_for client cx word) (Ok tt) client next out mid done
 polled_table cx word client last out later (Waits _ _ _ _ _ _ due done) =
     dispatched_table (plan_for client cx word) (Err Unresolved) client last out later done
+
+-- and so are the numbers of its queries
+dispatched_numbers : (plan : Plan) (result : Result (Unit {0}) EmitError) (old new : Client) (out later : Emitter)
+    → Dispatched TakesMessage RefusesMessage plan result old new out later → later.numbers ≡ out.numbers
+dispatched_numbers Wait result old new out later done = ap (λ (e : Emitter). e.numbers) done.2
+dispatched_numbers Restart result old new out later done = ap (λ (e : Emitter). e.numbers) done.2
+dispatched_numbers (Send outgoing before after) (Ok unit) old new out later done =
+    ap (λ (e : Emitter). e.numbers) done.0.ok.listed
+dispatched_numbers (Send outgoing before after) (Err NoMemory) old new out later done =
+    ap (λ (e : Emitter). e.numbers) (done.0.memory refl)
+dispatched_numbers (Send outgoing before after) (Err Unresolved) old new out later done =
+    ap (λ (e : Emitter). e.numbers) (done.0.unresolved refl).noted
+
+pub polled_numbers : (cx : Context) (word : ℕ) (client last : Client) (out later : Emitter) → Polled cx word client out last later
+    → later.numbers ≡ out.numbers
+polled_numbers cx word client last out later (IsQuiet _ _ _ _ early) = refl
+polled_numbers cx word client last out later (GoesOn _ _ _ next _ _ mid _ due done more) =
+    polled_numbers cx word next last mid later more ∙ dispatched_numbers (plan_for client cx word) (Ok tt) client next out mid done
+polled_numbers cx word client last out later (Waits _ _ _ _ _ _ due done) =
+    dispatched_numbers (plan_for client cx word) (Err Unresolved) client last out later done

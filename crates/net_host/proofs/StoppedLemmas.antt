@@ -65,8 +65,10 @@ reading_leaves task before now after old new host report read.Limit progress ref
     (λ taken. (length taken.events ≡ task.max) × EndsBy read.Limit taken)
     (full, ends_by task before now after old new host report read.Limit progress refuses)
 reading_leaves task before now after old new host report read.Read progress refuses said same =
-    stopped task before now after old new host report read.Read progress refuses same (EndsBy read.Read)
-    (ends_by task before now after old new host report read.Read progress refuses)
+    let tried : 0 < length refuses.part → length progress.events < task.max = λ some. omega (arith, progress.counted, refuses.tried refl some) in
+    stopped task before now after old new host report read.Read progress refuses same
+    (λ taken. (0 < length taken.part → length taken.events < task.max) × EndsBy read.Read taken)
+    (tried, ends_by task before now after old new host report read.Read progress refuses)
 
 -- the bytes of a script that was read so far
 begins : (bytes more front : List ℕ) (events : List Event) → AreInOrder 0 events → SpellsAll events front → bytes ≡ front ++ more

@@ -3,7 +3,7 @@
 use Rattle.std.specs.Prelude.{ℕ, List, [], ◌∷◌, ◌++◌}
 use Rattle.std.specs.List.{flat_map}
 use Rattle.phy_layers.specs.PcapBytes.{global_header, packet_record}
-use Rattle.host_model.specs.Script.{Arrival, Tick, Reset, Frame, Event}
+use Rattle.host_model.specs.Script.{Arrival, Tick, Reset, Frame, Query, Event}
 use Rattle.net_host.specs.declared.report.Row.{Row}
 use Rattle.net_host.specs.declared.report.Sent.{Sent}
 
@@ -16,6 +16,7 @@ abbrev pub arrived_record : ℕ → Arrival → List ℕ
 arrived_record at Tick = []
 arrived_record at Reset = []
 arrived_record at (Frame bytes) = packet_record at bytes
+arrived_record at (Query type_ name) = []
 
 -- the records of an event: the frame that arrived, and then those that its row lists
 abbrev pub event_records : Event → Row → List ℕ

@@ -10,7 +10,7 @@ use Rattle.ether_lax.specs.Noted.{DatagramPart}
 use Rattle.ether_lax.specs.Sliced.{HoldsLayout}
 use Rattle.ether_lax.specs.Steps.{begins_with}
 use Rattle.ether_lax.specs.declared.sliced_packet.LaxSlicedPacket.{LaxSlicedPacket}
-use Rattle.host_model.specs.Script.{Arrival, Tick, Reset, Frame}
+use Rattle.host_model.specs.Script.{Arrival, Tick, Reset, Frame, Query}
 use Rattle.net_wire.specs.Arp.{arp_spaces, is_from_host}
 use Rattle.net_wire.specs.Arrival.{is_for, sums_to_zero, has_right_sum, datagram_with}
 use Rattle.net_wire.specs.Datagram.{Datagram}
@@ -34,6 +34,7 @@ abbrev pub IsPacketFor : Arrival → Option LaxSlicedPacket → Type 0
 IsPacketFor Tick packet = packet ≡ None
 IsPacketFor Reset packet = packet ≡ None
 IsPacketFor (Frame bytes) packet = IsPacketIn bytes packet
+IsPacketFor (Query type_ name) packet = packet ≡ None
 
 -- the frame is to the station or to a group, and carries what an ether type names
 abbrev pub brings : EthernetAddress → ℕ → List ℕ → Bool

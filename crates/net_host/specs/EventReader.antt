@@ -10,10 +10,10 @@ state_inside reader = record {
   last = reader.last_micros;
   max_events = reader.max_events;
   is_through = reader.is_through;
-  frame = take reader.len reader.rest.items;
+  brought = take reader.len reader.rest.items;
 }
 
--- an event has at most 65546 bytes, and its frame 65535
+-- an event has at most 65546 bytes, and brings at most 65535 of them
 pub record IsPlacedInside (reader : Inside) : Type 0 where
   pub placed : reader.offset ≤ 65546 * reader.events
   pub room : vec_len reader.rest ≡ 65535

@@ -1,5 +1,6 @@
 -- The relation between the state of a host's DHCP client and the history of its events.
 use Rattle.std.specs.Prelude.{◌≡◌, ℕ, ◌+◌, ◌-◌, ◌<◌, ◌≤◌, Bool, false, nat_le, nat_lt, List, [], ◌∷◌, length, pos, Option, ⊤, if◌then◌else◌}
+use Rattle.net_wire.specs.declared.address.IpAddress.{IpAddress}
 use Rattle.dhcp_client.specs.declared.retry.RetryConfig.{RetryConfig}
 use Rattle.dhcp_client.specs.declared.state.ClientState.{ClientState}
 use Rattle.dhcp_client.specs.declared.state.ClientState.TheVariants.{Discovering, Requesting, Renewing}
@@ -14,6 +15,7 @@ use Rattle.host_model.specs.History.{Entry, last_id, times_since}
 use Rattle.host_model.specs.Anchor.{Anchor, Loss, Offer, Ack, lease_times, place_of}
 use Rattle.host_model.specs.Due.{loss_due, offer_due}
 use Rattle.host_model.specs.Lease.{held_under}
+use Rattle.host_model.specs.Queries.{first_servers, servers_under}
 use Rattle.host_model.specs.Script.{time_limit}
 
 -- The client keeps two dues of a lease and a mark, each by the times of the messages since the acknowledgement,
@@ -73,14 +75,23 @@ IsSoundUnder (Loss place) = ⊤
 IsSoundUnder (Offer place since server address) = since < time_limit
 IsSoundUnder (Ack place since granted server) = IsGrantSound since granted
 
+-- what a host holds of a lease: its address and router, and the name servers that it asks
+pub record Holding : Type 0 where
+  pub held : Option Held
+  pub servers : List IpAddress
+
+abbrev pub holding_under : Anchor → Holding
+holding_under anchor = record { held = held_under anchor; servers = servers_under anchor }
+
 -- The client goes by an anchor within the entries so far, newest first: its id is that of the last message,
 -- its state is read off the anchor and the messages since, and the rest is what was told. Where no change of its
 -- configuration waits, the host holds what the anchor says.
-pub record AgreesUnder (settings : Settings) (before : List Entry) (anchor : Anchor) (held : Option Held)
+pub record AgreesUnder (settings : Settings) (before : List Entry) (anchor : Anchor) (holding : Holding)
     (client : Client) : Type 0 where
   pub id : client.transaction_id ≡ last_id before
   pub state : client.state ≡ state_under settings before anchor
   pub told : client.settings ≡ settings.client
   pub placed : place_of anchor ≤ length before
   pub sound : IsSoundUnder anchor
-  pub held_is : client.changed ≡ false → held ≡ held_under anchor
+  pub names : first_servers client.dns_servers ≡ servers_under anchor
+  pub held_is : client.changed ≡ false → holding ≡ holding_under anchor

@@ -1,5 +1,6 @@
--- Frames that are not for the host change no row but their own, and of that the kind and the note alone.
+-- Frames that are not for the host change no time, no lease and no frame of any row.
 use Rattle.std.specs.Prelude.{◌≡◌, ℕ, List, [], ◌∷◌, ◌++◌}
+use Rattle.host_model.specs.Chronicle.{history}
 use Rattle.host_model.specs.Foreign.{IsForeign}
 use Rattle.host_model.specs.Script.{Tick, Frame, Event}
 use Rattle.host_model.specs.Settings.{Settings}
@@ -8,11 +9,13 @@ use Rattle.net_host.specs.Config.{CanRun}
 use Rattle.net_host.specs.ListedCut.{HasWidths}
 use Rattle.net_host.specs.Rows.{AreRows}
 
--- Two rows say the same, be it of different kinds: when it was, what is leased, and which frames were sent.
+-- Two rows say the same, be it of different kinds: when it was, what is leased, which frames were sent, and what
+-- became of queries.
 pub record SayTheSame (one other : Row) : Type 0 where
   pub time : one.at ≡ other.at
   pub lease : one.lease ≡ other.lease
   pub sent : one.sent ≡ other.sent
+  pub lines : one.lines ≡ other.lines
 
 -- one for one, in their order
 abbrev pub AllSayTheSame : List Row → List Row → Type 0
@@ -25,7 +28,8 @@ AllSayTheSame (row ∷ rows) (other ∷ others) = SayTheSame row other × AllSay
 -- for byte.
 abbrev pub ForeignFramesChangeNoRow : Type 0
 ForeignFramesChangeNoRow = (settings : Settings) → HasWidths settings → CanRun settings
-    → (words : List ℕ) (earlier later : List Event) (at : ℕ) (bytes : List ℕ) → IsForeign settings bytes
+    → (words : List ℕ) (earlier later : List Event) (at : ℕ) (bytes : List ℕ)
+    → IsForeign settings (history settings words earlier) bytes
     → (rows others : List Row)
     → AreRows settings words (earlier ++ record { at = at; arrival = Frame bytes } ∷ later) rows
     → AreRows settings words (earlier ++ record { at = at; arrival = Tick } ∷ later) others

@@ -1,5 +1,6 @@
 -- What one event does to a host.
-use Rattle.std.specs.Prelude.{◌≡◌, ℤ, List, ◌∷◌}
+use Rattle.std.specs.Prelude.{◌≡◌, ◌<◌, ℤ, List, ◌∷◌}
+use Rattle.dns_client.specs.Client.{client_of}
 use Rattle.host_model.specs.declared.words.EventWords.{EventWords}
 use Rattle.host_model.specs.Settings.{Settings}
 use Rattle.host_model.specs.History.{Entry}
@@ -7,6 +8,7 @@ use Rattle.host_model.specs.Anchor.{anchor_at}
 use Rattle.host_model.specs.Chronicle.{entry_of}
 use Rattle.host_model.specs.Frames.{frames_of}
 use Rattle.host_model.specs.Lease.{leased_under}
+use Rattle.host_model.specs.Queries.{lines_at}
 use Rattle.net_host.specs.declared.host.Handled.{Handled}
 use Rattle.net_host.specs.declared.host.Host.{Host}
 use Rattle.net_host.specs.declared.script.ScriptEvent.{ScriptEvent}
@@ -16,6 +18,8 @@ use Rattle.net_host.specs.Reading.{event_at}
 use Rattle.net_host.specs.Listed.{AreListed}
 use Rattle.net_host.specs.Neighbors.{HasRoom}
 use Rattle.net_host.specs.Polling.{IsReady}
+use Rattle.net_host.specs.QueryPolling.{AreLent}
+use Rattle.net_host.specs.QueryReady.{HoldsQueries}
 
 -- A history that the host agrees with before the event: it agrees with that and the event's entry after it,
 -- whose frames were sent, and gives the address that is leased then.
@@ -24,10 +28,14 @@ pub record Answers (settings : Settings) (before : List Entry) (at : ℤ) (event
   pub agrees : AgreesWithHistory settings (entry_of settings before (event_at at event) words ∷ before) new
   pub lease : handled.lease ≡ leased_under (anchor_at settings before (event_at at event))
   pub frames : AreListed settings (frames_of settings before (event_at at event) words) handled.sent
+  pub lines : handled.lines ≡ lines_at settings before (event_at at event) words
 
--- what a host relies on in itself: its client is ready, and its table has an empty place
+-- what a host relies on in itself: its clients are ready, its table has an empty place, and its queries count on
 pub record CanHandle (host : Host) : Type 0 where
   pub ready : IsReady host.dhcp host.ip_mtu
+  pub lent : AreLent (client_of host.dns)
+  pub holds : HoldsQueries host
+  pub few : host.queries < 10000
   pub room : HasRoom host.out.neighbors
 
 -- whatever the history is that the host agrees with

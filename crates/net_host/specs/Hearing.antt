@@ -1,5 +1,5 @@
 -- What a host makes of what an event brings.
-use Rattle.std.specs.Prelude.{List, ◌++◌, Option, Some, None, ⊤, if◌then◌else◌}
+use Rattle.std.specs.Prelude.{◌++◌, Option, Some, None, ⊤, if◌then◌else◌}
 use Rattle.net_wire.specs.declared.error.Context.{Context}
 use Rattle.net_wire.specs.declared.arp.ArpRepr.{ArpRepr}
 use Rattle.net_wire.specs.Arrival.{arriving_datagram}
@@ -9,7 +9,7 @@ use Rattle.dhcp_client.specs.Client.{Client, after_reset}
 use Rattle.dhcp_client.specs.Heard.{IsShort}
 use Rattle.dhcp_client.specs.Hearing.{after_message, ear_of}
 use Rattle.host_model.specs.Hearing.{heard_by, is_for_client}
-use Rattle.host_model.specs.Script.{Arrival, Tick, Reset, Frame}
+use Rattle.host_model.specs.Script.{Arrival, Tick, Reset, Frame, Query}
 use Rattle.net_host.specs.declared.emitter.Emitter.{Emitter}
 use Rattle.net_host.specs.Emitter.{reply_sent}
 use Rattle.net_host.specs.Neighbors.{learned}
@@ -27,12 +27,14 @@ abbrev pub after_arrival : Context → Arrival → Client → Client
 after_arrival cx Tick client = client
 after_arrival cx Reset client = after_reset client
 after_arrival cx (Frame bytes) client = after_datagram cx (arriving_datagram cx.hardware_addr bytes) client
+after_arrival cx (Query type_ name) client = client
 
 -- what is granted in an event is granted for less than 2^32 seconds
 abbrev pub IsShortIn : Context → Arrival → Client → Type 0
 IsShortIn cx Tick client = ⊤
 IsShortIn cx Reset client = ⊤
 IsShortIn cx (Frame bytes) client = IsShort (heard_by (ear_of client cx) (arriving_datagram cx.hardware_addr bytes))
+IsShortIn cx (Query type_ name) client = ⊤
 
 -- the neighbour that an ARP packet tells of is noted with the time of the event, and a request for the held
 -- address gets its reply

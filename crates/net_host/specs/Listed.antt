@@ -3,13 +3,15 @@ use Rattle.std.specs.Prelude.{◌≡◌, ℕ, List, [], ◌∷◌, Option, Some,
 use Rattle.net_wire.specs.Arp.{arp_frame_bytes}
 use Rattle.net_wire.specs.Datagram.{Datagram, IsSentFrame}
 use Rattle.net_wire.specs.DhcpBytes.{message_bytes}
-use Rattle.host_model.specs.Frames.{Listed}
+use Rattle.host_model.specs.Frames.{Listed, query_datagram}
 use Rattle.host_model.specs.Frames as listed
 use Rattle.host_model.specs.History.{SentMessage, Transmission}
+use Rattle.host_model.specs.QueryLooks.{SentAsk}
 use Rattle.host_model.specs.Settings.{Settings}
 use Rattle.net_host.specs.declared.report.Mark.{Mark}
-use Rattle.net_host.specs.declared.report.Mark.TheVariants.{Dhcp, ArpReply, ArpRequest}
+use Rattle.net_host.specs.declared.report.Mark.TheVariants.{Dhcp, Dns, ArpReply, ArpRequest}
 use Rattle.net_host.specs.declared.report.Sent.{Sent}
+use Rattle.net_host.specs.QueryEmitter.{query_sent}
 
 -- the datagram of a DHCP message, from the client's port to the server's
 abbrev pub datagram_for : Settings → Transmission → Datagram
@@ -30,6 +32,11 @@ abbrev pub IsFrameOf : Settings → SentMessage → List ℕ → Type 0
 IsFrameOf settings sent frame =
     IsSentFrame settings.hardware sent.hop 64 (datagram_for settings sent.transmission) frame
 
+-- and so that of a query's message
+abbrev pub IsFrameOfQuery : Settings → SentAsk → List ℕ → Type 0
+IsFrameOfQuery settings sent frame =
+    IsSentFrame settings.hardware sent.hop 64 (query_datagram sent.ask) frame
+
 -- What is listed, marked as such: an ARP packet from the host's hardware address, or the frame of a message.
 abbrev pub IsListed : Settings → Listed → Sent → Type 0
 IsListed settings (listed.ArpReply to arp) sent = sent ≡ sent_with ArpReply (arp_frame_bytes settings.hardware to arp)
@@ -37,6 +44,9 @@ IsListed settings (listed.ArpRequest to arp) sent =
     sent ≡ sent_with ArpRequest (arp_frame_bytes settings.hardware to arp)
 IsListed settings (listed.Dhcp message) sent =
     (frame : List ℕ) × (sent ≡ sent_with Dhcp frame) × IsFrameOf settings message frame
+IsListed settings (listed.Dns sent_ask) sent =
+    (frame : List ℕ) × (sent ≡ query_sent sent_ask.ask.query sent_ask.ask.place frame)
+    × IsFrameOfQuery settings sent_ask frame
 
 -- one for one, in their order
 abbrev pub AreListed : Settings → List Listed → List Sent → Type 0
@@ -50,6 +60,7 @@ abbrev pub with_dhcp : Mark → List ℕ → List (List ℕ) → List (List ℕ)
 with_dhcp Dhcp frame frames = frame ∷ frames
 with_dhcp ArpReply frame frames = frames
 with_dhcp ArpRequest frame frames = frames
+with_dhcp (Dns query place) frame frames = frames
 
 abbrev pub dhcp_frames : List Sent → List (List ℕ)
 dhcp_frames [] = []

@@ -2,7 +2,7 @@
 use Rattle.std.specs.Prelude.{ℕ, ◌^◌, ◌<◌, List, [], ◌∷◌}
 use Rattle.frame_laws.specs.SentArp.{IsCutIntoArp}
 use Rattle.frame_laws.specs.SentParts.{IsCutIntoDatagram}
-use Rattle.host_model.specs.Frames.{Listed, ArpReply, ArpRequest, Dhcp, frames_of}
+use Rattle.host_model.specs.Frames.{Listed, ArpReply, ArpRequest, Dhcp, Dns, frames_of, query_datagram}
 use Rattle.host_model.specs.History.{Entry}
 use Rattle.host_model.specs.Settings.{Settings}
 use Rattle.host_model.specs.Sizes.{HasSix}
@@ -25,6 +25,7 @@ IsCutInto settings (ArpReply to arp) frame = IsCutIntoArp settings.hardware to a
 IsCutInto settings (ArpRequest to arp) frame = IsCutIntoArp settings.hardware to arp frame
 IsCutInto settings (Dhcp sent) frame =
     IsCutIntoDatagram settings.hardware sent.hop 64 (datagram_for settings sent.transmission) frame
+IsCutInto settings (Dns sent) frame = IsCutIntoDatagram settings.hardware sent.hop 64 (query_datagram sent.ask) frame
 
 -- one for one, in their order
 abbrev pub AreCutInto : Settings → List Listed → List Sent → Type 0

@@ -9,7 +9,8 @@ use Rattle.net_host.specs.declared.report.Row.{Row}
 
 -- a row in which nothing was sent yet
 abbrev pub new_row : ℤ → Kind → Option FrameNote → Option Ipv4Cidr → Row
-new_row at kind note lease = record { at = at; kind = kind; note = note; lease = lease; sent = [] }
+new_row at kind note lease =
+    record { at = at; kind = kind; note = note; lease = lease; sent = []; lines = [] }
 
 -- frames that a record of a capture can hold
 abbrev pub AreCapturable : List Sent → Type 0

@@ -128,7 +128,9 @@ Leaves task before after report (Script offset) =
 Leaves task before after report Limit =
     Stopped task before after report (λ taken. (length taken.events ≡ task.max) × EndsBy read.Limit taken)
 Leaves task before after report Words = RanOut task before after report
-Leaves task before after report Read = Stopped task before after report (EndsBy read.Read)
+Leaves task before after report Read =
+    Stopped task before after report
+    (λ taken. (0 < length taken.part → length taken.events < task.max) × EndsBy read.Read taken)
 Leaves task before after report Sink = Interrupted task before after report (HasRows task report)
 Leaves task before after report NoMemory =
     Interrupted task before after report (λ events. HasRows task report events ⊎ LacksRow task report events)

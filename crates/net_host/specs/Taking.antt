@@ -27,7 +27,7 @@ standing host captured report = record { host = host; captured = captured; repor
 
 -- what a row says that the host gave
 abbrev pub handled_in : Row → Handled
-handled_in row = record { lease = row.lease; sent = row.sent }
+handled_in row = record { lease = row.lease; sent = row.sent; lines = row.lines }
 
 -- the report has one row more: that of the event, with the frames that the host sent
 pub record PlacesRow (at : ℤ) (event : ScriptEvent) (words : EventWords) (old new : Standing) : Type 0 where

@@ -5,17 +5,19 @@ ghost use Rattle.net_wire.specs.Arp.{arp_frame_bytes};
 ghost use Rattle.net_wire.specs.DhcpMessage.{message_of};
 ghost use Rattle.net_wire.specs.DhcpBytes.{message_bytes, IsWritable};
 ghost use Rattle.net_wire.specs.Datagram.{IsSentFrame, datagram_of};
+ghost use Rattle.net_host.specs.QueryEmitter.{number_at};
 
 use crate::hops::{hop_address, hop_of};
 use crate::neighbors::Neighbors;
 use crate::{Mark, Sent, SentList};
 use dhcp_client::DhcpEmit;
+use dns_client::{DnsEmit, QueryHandle};
 use host_model::Held;
 use net_wire::arp::{REPLY, REQUEST, arp_frame};
 use net_wire::udp::udp_frame;
 use net_wire::{
-    ArpRepr, DhcpRepr, EmitError, EthernetAddress, EthernetProtocol, EthernetRepr, Ipv4Address,
-    Ipv4Repr, NoMemory, UdpRepr,
+    ArpRepr, DhcpRepr, EmitError, EthernetAddress, EthernetProtocol, EthernetRepr, IpAddress,
+    IpRepr, Ipv4Address, Ipv4Repr, NoMemory, UdpRepr,
 };
 use phy_layers::FrameBytes;
 use std::alloc::Global;
@@ -34,6 +36,8 @@ pub(crate) struct Emitter<'m> {
     pub sent: SentList,
     /// Where the message was to go last whose next hop was not known.
     pub refused: Option<Ipv4Address>,
+    /// The numbers of the queries, by their slots in the DNS client; 0 where a slot is free.
+    pub numbers: [u32; 16],
 }
 
 impl<'m> Drop for Emitter<'m> {
@@ -46,6 +50,7 @@ impl<'m> Drop for Emitter<'m> {
             at: _,
             sent,
             refused: _,
+            numbers: _,
         } = self;
         let _ = neighbors;
         let _ = sent;
@@ -74,7 +79,7 @@ impl<'m> Emitter<'m> {
         std::mem::replace(&mut self.sent, none)
     }
 
-    /// The hardware address of the next hop, where it is known.
+    /// `None` where there is no next hop, or where no ARP packet told of it in the last 60 seconds (RFC 826).
     fn next_hop(&self, destination: Ipv4Address) -> Option<EthernetAddress>
         ensures { result ≡ hop_by self.now destination }
     {
@@ -111,14 +116,14 @@ impl<'m> Emitter<'m> {
         Ok(())
     }
 
-    /// Asks all stations for the next hop that was not known, where it has an address (RFC 826).
-    pub fn ask(&mut self) -> Result<(), NoMemory>
+    /// Asks all stations for the next hop with an address, if there is one (RFC 826).
+    pub fn ask(&mut self, address: Option<Ipv4Address>) -> Result<(), NoMemory>
         ensures small { OnOk result (AreCapturable self.old.sent → AreCapturable self.new.sent) }
         ensures value { OnOk result (self.new ≡ record self.old {
-          sent = self.old.sent ++ request_sent self.old.hardware self.old.held (refused_hop self.old);
+          sent = self.old.sent ++ request_sent self.old.hardware self.old.held address;
         }) }
     {
-        let (Some(held), Some(address)) = (self.held, self.refused_hop()) else {
+        let (Some(held), Some(address)) = (self.held, address) else {
             return Ok(());
         };
         let request = ArpRepr {
@@ -131,8 +136,8 @@ impl<'m> Emitter<'m> {
         self.send_arp(Mark::ArpRequest, EthernetAddress::BROADCAST, &request)
     }
 
-    /// The address of the next hop that was not known.
-    fn refused_hop(&self) -> Option<Ipv4Address>
+    /// `None` where each message found its hop, or where a destination has no next hop.
+    pub fn refused_hop(&self) -> Option<Ipv4Address>
         ensures { result ≡ refused_hop self.now }
     {
         match self.refused {
@@ -228,5 +233,76 @@ impl<'m> DhcpEmit for Emitter<'m> {
             frame,
         })?;
         Ok(())
+    }
+}
+
+impl<'m> DnsEmit for Emitter<'m> {
+    ghost use Rattle.net_host.specs.QueryEmitter.{source_for, TakesQuery, RefusesQuery};
+
+    ghost took = { TakesQuery };
+
+    ghost refused = { RefusesQuery };
+
+    ghost source = { λ out. source_for out.held };
+
+    fn source_for(&self, dst: IpAddress) -> Option<IpAddress> {
+        match dst {
+            IpAddress::Ipv4(_) => match self.held {
+                Some(held) => Some(IpAddress::Ipv4(held.address.address)),
+                None => None,
+            },
+            IpAddress::Ipv6(_) => None,
+        }
+    }
+
+    fn emit(
+        &mut self,
+        handle: QueryHandle,
+        place: usize,
+        ip: &IpRepr,
+        udp: &UdpRepr,
+        payload: &[u8],
+    ) -> Result<(), EmitError> {
+        let (IpAddress::Ipv4(src_addr), IpAddress::Ipv4(dst_addr)) = (ip.src_addr, ip.dst_addr)
+        else {
+            unreachable!()
+        };
+        let Some(hop) = self.next_hop(dst_addr) else {
+            self.refused = Some(dst_addr);
+            return Err(EmitError::Unresolved);
+        };
+        let eth = EthernetRepr {
+            src_addr: self.hardware,
+            dst_addr: hop,
+            ethertype: EthernetProtocol::Ipv4,
+        };
+        let ip = Ipv4Repr {
+            src_addr,
+            dst_addr,
+            next_header: ip.next_header,
+            payload_len: ip.payload_len,
+            hop_limit: ip.hop_limit,
+        };
+        let frame = frame_of(self.alloc, &eth, &ip, udp, payload)?;
+        let query = number_at(&self.numbers, handle.slot());
+        self.sent.push(Sent {
+            mark: Mark::Dns {
+                query,
+                place: place as u32,
+            },
+            frame,
+        })?;
+        Ok(())
+    }
+}
+
+/// The number of the query in a slot.
+fn number_at(numbers: &[u32], slot: usize) -> u32
+    ensures { result ≡ number_at numbers.now slot }
+{
+    if slot < numbers.len() {
+        numbers[slot]
+    } else {
+        0
     }
 }

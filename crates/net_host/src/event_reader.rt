@@ -16,9 +16,9 @@ use std::marker::Model;
 /// Reads the events of one script, and knows where it is on it.
 #[derive(Debug, Drop)]
 pub struct EventReader {
-    /// Takes the bytes of a frame: the longest one has room.
+    /// Takes the bytes of a frame or a name: the longest frame has room.
     rest: Vec<u8>,
-    /// How many of them are the frame of the event that came last.
+    /// How many of them the event brought that came last.
     len: usize,
     offset: u64,
     events: u32,
@@ -70,7 +70,7 @@ impl EventReader {
         requires limit { IfSome self.old.max_events (λ max. max ≡ max_events) }
         ensures found { IfOk result (λ found. IfSome found (λ head.
             GivesNext max_events self.old self.new (S.left source.old) (S.left source.new)
-            (event_with head self.new.frame))) }
+            (event_with head self.new.brought))) }
         ensures ended { IfOk result (λ found. IfNone found (
             IsThrough max_events self.old self.new (S.left source.old) (S.left source.new))) }
         ensures err { IfErr result (
@@ -92,25 +92,32 @@ impl EventReader {
         let Some(head) = read_head(source, self.last_micros, self.offset, is_full)? else {
             return Ok(None);
         };
-        let len = read_rest(source, head.kind, self.offset, self.rest.as_mut_slice())?;
+        let rest = read_rest(source, head.kind, self.offset, self.rest.as_mut_slice())?;
         self.is_through = false;
-        self.len = len;
-        self.offset += HEAD_LEN + rest_len(head.kind, len);
+        self.len = rest.len;
+        self.offset += HEAD_LEN + rest_len(head.kind, rest.len);
         self.events += 1;
         self.last_micros = head.micros;
-        Ok(Some(head))
+        Ok(Some(EventHead {
+            kind: rest.kind,
+            micros: head.micros,
+        }))
     }
 
-    /// The event whose head was read last, with its time. It borrows the frame from the reader.
+    /// The event whose head was read last, with its time. It borrows the frame or the name from the reader.
     pub fn event(&self, head: EventHead) -> (Instant, ScriptEvent<'_>)
         requires { head.micros < time_limit }
-        ensures event { event_at result.0 result.1 ≡ event_with head self.now.frame }
+        ensures event { event_at result.0 result.1 ≡ event_with head self.now.brought }
         ensures time { result.0 ≡ pos head.micros }
     {
         let event = match head.kind {
             EventKind::Frame => ScriptEvent::Frame(&self.rest.as_slice()[..self.len]),
             EventKind::Tick => ScriptEvent::Tick,
             EventKind::Reset => ScriptEvent::Reset,
+            EventKind::Query(query_type) => ScriptEvent::Query {
+                name: &self.rest.as_slice()[..self.len],
+                query_type,
+            },
         };
         (Instant::from_micros(head.micros as i64), event)
     }

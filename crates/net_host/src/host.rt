@@ -1,27 +1,42 @@
 //! A host, and what it does in one event.
-ghost use Rattle.std.specs.Prelude.{◌≡◌, ℕ, ◌<◌, ◌^◌, false, List, ◌∷◌, Option, IfOk, OnOk};
+ghost use Rattle.std.specs.Prelude.{◌≡◌, ℕ, ◌<◌, ◌^◌, false, List, ◌∷◌, Option, None, replicate, IsUtf8, IfOk, OnOk};
 ghost use Rattle.std.specs.Option.{option_copied, option_map};
 ghost use Rattle.dhcp_client.specs.Hearing.{ear_of};
 ghost use Rattle.dhcp_client.specs.Heard.{IsShort};
+ghost use Rattle.net_wire.specs.declared.address.IpAddress.{IpAddress};
+ghost use Rattle.dns_client.specs.Client.{client_of};
 ghost use Rattle.net_wire.specs.ArrivalValues.{datagram_value};
-ghost use Rattle.host_model.specs.Hearing.{heard_by};
+ghost use Rattle.host_model.specs.Frames.{not_asked};
+ghost use Rattle.host_model.specs.Hearing.{heard_by, is_for_client};
 ghost use Rattle.host_model.specs.Neighbor.{told_to};
 ghost use Rattle.net_host.specs.Dissected.{IsPacketFor};
+ghost use Rattle.host_model.specs.Queries.{hears_datagram};
+ghost use Rattle.host_model.specs.QuerySlots.{Slot};
+ghost use Rattle.host_model.specs.Script.{IsArrival, Query};
+ghost use Rattle.host_model.specs.Settings.{Settings};
 ghost use Rattle.net_host.specs.Hearing.{after_arrival, after_datagram, after_told, IsShortIn};
-ghost use Rattle.net_host.specs.Holding.{held_after};
+ghost use Rattle.net_host.specs.Holding.{held_after, served_after};
 ghost use Rattle.net_host.specs.Handling.{CanHandle};
 ghost use Rattle.net_host.specs.Polling.{Polled, IsReady};
+ghost use Rattle.net_host.specs.QueryHearing.{HearsQueries};
+ghost use Rattle.net_host.specs.QueryPolling.{AreLent};
+ghost use Rattle.net_host.specs.QueryReady.{HoldsQueries};
+ghost use Rattle.net_host.specs.QueryStanding.{StandAs};
 ghost use Rattle.net_host.specs.Reading.{arrival_of};
 ghost use Rattle.phy_layers.specs.PcapBytes.{epoch_micros, IsCapturable};
 
 use crate::arrival::{arp_in, datagram_in};
 use crate::emitter::Emitter;
 use crate::neighbors::Neighbors;
-use crate::{HostConfig, ScriptEvent, SentList};
+use crate::queries::{end_queries, hear_response, poll_dns, serve, start};
+use crate::{HostConfig, LineList, ScriptEvent, SentList};
 use dhcp_client::{Event, Socket};
+use dns_client::DnsQuery;
 use ether_lax::LaxSlicedPacket;
-use host_model::{EventWords, Held};
-use net_wire::{ArpRepr, Context, Datagram, EmitError, Instant, Ipv4Cidr, NoMemory};
+use host_model::{EventWords, Held, Outcome, QueryLine};
+use managed::ManagedSlice;
+use net_wire::dns::DnsType;
+use net_wire::{ArpRepr, Context, Datagram, EmitError, Instant, Ipv4Address, Ipv4Cidr, NoMemory};
 use std::alloc::Global;
 
 /// The state of a host between two events.
@@ -30,6 +45,9 @@ pub(crate) struct Host<'a, 'm> {
     /// The longest IPv4 datagram of the link, in bytes.
     pub ip_mtu: u16,
     pub dhcp: Socket<'a>,
+    pub dns: dns_client::Socket<'m>,
+    /// How many query events there were.
+    pub queries: u32,
     pub out: Emitter<'m>,
 }
 
@@ -38,9 +56,12 @@ impl<'a, 'm> Drop for Host<'a, 'm> {
         let Host {
             ip_mtu: _,
             dhcp,
+            dns,
+            queries: _,
             out,
         } = self;
         let _ = dhcp;
+        let _ = dns;
         let _ = out;
     }
 }
@@ -52,6 +73,8 @@ pub(crate) struct Handled {
     pub lease: Option<Ipv4Cidr>,
     /// The frames that were sent.
     pub sent: SentList,
+    /// What became of queries.
+    pub lines: LineList,
 }
 
 impl<'a, 'm> Host<'a, 'm> {
@@ -64,16 +87,27 @@ impl<'a, 'm> Host<'a, 'm> {
     ghost use Rattle.std.specs.Prelude.{[], ◌+◌, ◌≤◌};
 
     /// A host that has seen no event.
-    pub fn new(alloc: Global, config: &HostConfig<'a>, neighbors: Neighbors<'m>) -> Host<'a, 'm>
-        requires { no_pairs neighbors }
+    pub fn new(
+        alloc: Global,
+        config: &HostConfig<'a>,
+        neighbors: Neighbors<'m>,
+        slots: &'m mut [Option<DnsQuery>],
+    ) -> Host<'a, 'm>
+        requires neighbors { no_pairs neighbors }
+        requires slots { slots.old ≡ replicate 16 None }
         ensures agrees { AgreesWithHistory config.now [] result }
         ensures ready { IsReady result.dhcp result.ip_mtu }
         ensures neighbors { result.out.neighbors ≡ neighbors.entry }
         ensures runs { CanRun config.now }
+        ensures lent { AreLent (client_of result.dns) }
+        ensures holds { HoldsQueries result }
+        ensures queries { result.queries ≡ 0 }
     {
         Host {
             ip_mtu: config.ip_mtu(),
             dhcp: Socket::with_config(config.client()),
+            dns: dns_client::Socket::new(&[], ManagedSlice::Borrowed(slots)),
+            queries: 0,
             out: Emitter {
                 alloc,
                 hardware: config.hardware(),
@@ -82,6 +116,7 @@ impl<'a, 'm> Host<'a, 'm> {
                 at: 0,
                 sent: SentList::new(alloc),
                 refused: None,
+                numbers: [0; 16],
             },
         }
     }
@@ -107,12 +142,16 @@ impl<'a, 'm> Host<'a, 'm> {
     ) -> Result<Handled, NoMemory>
         requires can { CanHandle self.old }
         requires time { IsCapturable at }
+        requires arrival { IsArrival (arrival_of event) }
         requires packet { IsPacketFor (arrival_of event) (option_copied packet) }
         ensures value { IfOk result (HandlesEvent at event.entry words self.old self.new) }
         ensures within { IfOk result (λ handled. AreCapturable handled.sent) }
         ensures ready { OnOk result (IsReady self.new.dhcp self.new.ip_mtu) }
         ensures places { OnOk result (place_count self.new.out.neighbors ≡ place_count self.old.out.neighbors) }
         ensures few { OnOk result (pair_count self.new.out.neighbors ≤ pair_count self.old.out.neighbors + 1) }
+        ensures lent { OnOk result (AreLent (client_of self.new.dns)) }
+        ensures holds { OnOk result (HoldsQueries self.new) }
+        ensures queries { OnOk result (self.new.queries ≤ self.old.queries + 1) }
     {
         self.out.begin(epoch_micros(at));
         let cx = Context {
@@ -120,30 +159,45 @@ impl<'a, 'm> Host<'a, 'm> {
             hardware_addr: self.out.hardware,
             ip_mtu: self.ip_mtu,
         };
-        self.hear(&cx, event, packet)?;
+        let refused = self.hear(&cx, event, packet, words)?;
         poll_dhcp(&mut self.dhcp, &cx, words.first, &mut self.out)?;
-        self.out.ask()?;
-        hold(&mut self.dhcp, &mut self.out.held);
+        let asked = self.out.refused_hop();
+        self.out.ask(asked)?;
+        self.out.refused = None;
+        poll_dns(&mut self.dns, at, &mut self.out)?;
+        let address = self.out.refused_hop();
+        self.out.ask(not_asked(asked, address))?;
+        let mut lines = end_queries(&mut self.dns, &mut self.out)?;
+        if let Some(line) = refused {
+            lines.put_first(line)?;
+        }
+        hold(&mut self.dhcp, &mut self.out.held, &mut self.dns);
         let lease = self.lease();
         let sent = self.out.take_sent();
-        Ok(Handled { lease, sent })
+        Ok(Handled { lease, sent, lines })
     }
 
-    /// Takes in what an event brings: the neighbour that a frame tells of, and what the DHCP client is told. A
-    /// frame that asks for the held address gets its reply.
+    /// Takes in what an event brings: the neighbour that a frame tells of, and what the clients are told. A frame
+    /// that asks for the held address gets its reply. Answers the line of a query that is refused.
     fn hear(
         &mut self,
         cx: &Context,
         event: ScriptEvent<'_>,
         packet: Option<&LaxSlicedPacket<'_>>,
-    ) -> Result<(), NoMemory>
+        words: EventWords,
+    ) -> Result<Option<QueryLine>, NoMemory>
         requires can { CanHandle self.old }
+        requires arrival { IsArrival (arrival_of event) }
         requires packet { IsPacketFor (arrival_of event) (option_copied packet) }
         requires hardware { cx.now.hardware_addr ≡ self.old.out.hardware }
         ensures dhcp { OnOk result (self.new.dhcp ≡ after_arrival cx.entry.now (arrival_of event.entry) self.old.dhcp) }
         ensures short { OnOk result (IsShortIn cx.entry.now (arrival_of event.entry) self.old.dhcp) }
         ensures out { OnOk result (self.new.out
-            ≡ after_told (told_to self.old.out.hardware (arrival_of event.entry)) self.old.out) }
+            ≡ record (after_told (told_to self.old.out.hardware (arrival_of event.entry)) self.old.out) {
+              numbers = self.new.out.numbers;
+            }) }
+        ensures queries { IfOk result (λ refused. HearsQueries (arrival_of event.entry) words self.old self.new refused) }
+        ensures lent { OnOk result (AreLent (client_of self.new.dns)) }
         ensures mtu { self.new.ip_mtu ≡ self.old.ip_mtu }
         ensures small { OnOk result (AreCapturable self.old.out.sent → AreCapturable self.new.out.sent) }
     {
@@ -152,13 +206,49 @@ impl<'a, 'm> Host<'a, 'm> {
                 if let Some(packet) = packet {
                     self.take_told(arp_in(packet, self.out.hardware))?;
                     let datagram = datagram_in(packet, self.out.hardware);
-                    tell_datagram(&mut self.dhcp, cx, datagram);
+                    tell_datagram(&mut self.dhcp, &mut self.dns, cx, datagram);
                 }
+                Ok(None)
             }
-            ScriptEvent::Tick => {}
-            ScriptEvent::Reset => self.dhcp.reset(),
+            ScriptEvent::Tick => Ok(None),
+            ScriptEvent::Query { name, query_type } => Ok(self.start(name, query_type, words)),
+            ScriptEvent::Reset => {
+                self.dhcp.reset();
+                Ok(None)
+            }
         }
-        Ok(())
+    }
+
+    /// Starts the query of an event, and answers its line, if it is refused.
+    fn start(&mut self, name: &[u8], query_type: DnsType, words: EventWords) -> Option<QueryLine>
+        requires lent { AreLent (client_of self.old.dns) }
+        requires count { self.old.queries < 10000 }
+        requires name { IsUtf8 name.now }
+        ensures queries { HearsQueries (Query query_type name.now) words self.old self.new result }
+        ensures lent { AreLent (client_of self.new.dns) }
+        ensures dhcp { self.new.dhcp ≡ self.old.dhcp }
+        ensures out { self.new.out ≡ record self.old.out { numbers = self.new.out.numbers } }
+        ensures mtu { self.new.ip_mtu ≡ self.old.ip_mtu }
+    {
+        let number = self.queries;
+        self.queries += 1;
+        let Ok(name) = str::from_utf8(name) else {
+            unreachable!()
+        };
+        match start(
+            &mut self.dns,
+            &mut self.out,
+            number,
+            name,
+            query_type,
+            words,
+        ) {
+            Some(error) => Some(QueryLine {
+                query: number,
+                outcome: Outcome::Refused(error),
+            }),
+            None => None,
+        }
     }
 
     /// Takes in the ARP packet that a frame brings, where it brings one that counts.
@@ -166,6 +256,8 @@ impl<'a, 'm> Host<'a, 'm> {
         requires { CanHandle self.old }
         ensures out { OnOk result (self.new.out ≡ after_told told self.old.out) }
         ensures dhcp { self.new.dhcp ≡ self.old.dhcp }
+        ensures dns { client_of self.new.dns ≡ client_of self.old.dns }
+        ensures queries { self.new.queries ≡ self.old.queries }
         ensures mtu { self.new.ip_mtu ≡ self.old.ip_mtu }
         ensures small { OnOk result (AreCapturable self.old.out.sent → AreCapturable self.new.out.sent) }
     {
@@ -186,22 +278,54 @@ fn epoch_micros(at: Instant) -> u64
     at.total_micros() as u64
 }
 
-/// Tells the DHCP client what a datagram brings, where it goes from the port of servers to the client's.
-fn tell_datagram(dhcp: &mut Socket<'_>, cx: &Context, datagram: Option<Datagram<'_>>)
-    ensures value { dhcp.new ≡ after_datagram cx.entry.now (option_map datagram_value datagram.entry) dhcp.old }
+/// Tells the clients what a datagram brings: the DHCP client where it goes from the port of servers to its own,
+/// and else the DNS client.
+fn tell_datagram(
+    dhcp: &mut Socket<'_>,
+    dns: &mut dns_client::Socket<'_>,
+    cx: &Context,
+    datagram: Option<Datagram<'_>>,
+)
+    ensures dhcp { dhcp.new ≡ after_datagram cx.entry.now (option_map datagram_value datagram.entry) dhcp.old }
     ensures short { IsShort (heard_by (ear_of dhcp.old cx.entry.now) (option_map datagram_value datagram.entry)) }
+    ensures queries { (settings : Settings) (servers : List IpAddress) (slots : List Slot) (numbers : List ℕ)
+        → settings.client ≡ dhcp.old.settings
+        → StandAs servers slots (client_of dns.old) numbers
+        → StandAs servers (hears_datagram settings servers (option_map datagram_value datagram.entry) slots)
+        (client_of dns.new) numbers }
+    ensures lent { AreLent (client_of dns.old) → AreLent (client_of dns.new) }
 {
     if let Some(datagram) = datagram {
-        if datagram.src_port == dhcp.server_port() && datagram.dst_port == dhcp.client_port() {
+        if is_for_client(dhcp, &datagram) {
             dhcp.process(cx, datagram.src_addr, datagram.payload);
+        } else {
+            hear_response(dns, &datagram);
         }
     }
 }
 
-/// Holds what the DHCP client leases by now, where that changed.
-fn hold(dhcp: &mut Socket<'_>, held: &mut Option<Held>)
+/// Whether a datagram goes from the port of servers to that of the DHCP client.
+fn is_for_client(dhcp: &Socket<'_>, datagram: &Datagram<'_>) -> bool
+    ensures { result ≡ is_for_client dhcp.now.settings (datagram_value datagram.now) }
+{
+    datagram.src_port == dhcp.server_port() && datagram.dst_port == dhcp.client_port()
+}
+
+/// The address to ask for, where it is not the one that was asked for.
+fn not_asked(asked: Option<Ipv4Address>, address: Option<Ipv4Address>) -> Option<Ipv4Address>
+    ensures { result ≡ not_asked asked address }
+{
+    if asked == address { None } else { address }
+}
+
+/// Holds what the DHCP client leases by now, where that changed, and lets its servers be asked.
+fn hold(dhcp: &mut Socket<'_>, held: &mut Option<Held>, dns: &mut dns_client::Socket<'_>)
     ensures held { held.new ≡ held_after dhcp.old held.old }
     ensures told { dhcp.new ≡ record dhcp.old { changed = false } }
+    ensures servers { (servers : List IpAddress) (slots : List Slot) (numbers : List ℕ)
+        → StandAs servers slots (client_of dns.old) numbers
+        → StandAs (served_after dhcp.old servers) slots (client_of dns.new) numbers }
+    ensures lent { AreLent (client_of dns.old) → AreLent (client_of dns.new) }
 {
     match dhcp.poll() {
         Some(Event::Configured(config)) => {
@@ -209,8 +333,12 @@ fn hold(dhcp: &mut Socket<'_>, held: &mut Option<Held>)
                 address: config.address,
                 router: config.router,
             });
+            serve(dns, config.dns_servers);
         }
-        Some(Event::Deconfigured) => *held = None,
+        Some(Event::Deconfigured) => {
+            *held = None;
+            serve(dns, &[]);
+        }
         None => {}
     }
 }

@@ -4,6 +4,7 @@ ghost use Rattle.net_host.specs.ConfigExamples.{LinkEdges, LeastTimeouts, Greate
 ghost use Rattle.net_host.specs.ConfigExamples.{RetriesEdges, PortEdges, ListEdges, TellsFirst};
 ghost use Rattle.net_host.specs.ForeignRows.{ForeignFramesChangeNoRow};
 ghost use Rattle.net_host.specs.ListedCut.{RowsAreCut};
+ghost use Rattle.net_host.specs.QueryRows.{RowsAskFourTimes, RowsHaveOneLineEach};
 
 /// The default values are accepted with the address of any station, any MTU from 576 to 1500, any
 /// cap on leases, and either rule for refusals of servers.
@@ -25,11 +26,21 @@ pub fn rows_are_cut()
     ensures { RowsAreCut }
 {}
 
-/// A frame that is not for the host changes no row but its own, and of that the kind and the note
-/// alone: with a tick in its place every row has the same time, lease and frames.
+/// A frame that is not for the host changes no time, lease, frame or line of a query in any row: with a
+/// tick at its time in its place, every row has the same ones.
 #[tactic(auto, using(crate::proofs::ForeignRowLemmas::rows_stay))]
 pub fn foreign_frames_change_no_row()
     ensures { ForeignFramesChangeNoRow }
+{}
+
+/// A script's rows have at most four frames of one query to one place of its list of name servers.
+pub fn rows_ask_four_times()
+    ensures { RowsAskFourTimes }
+{}
+
+/// Of each query event the rows have one line, or its query still waits behind the last event; no number has two.
+pub fn rows_have_one_line_each()
+    ensures { RowsHaveOneLineEach }
 {}
 
 /// Closed examples: of each value one that is just accepted and one that is just refused.

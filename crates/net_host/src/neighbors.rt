@@ -71,6 +71,7 @@ impl<'m> Neighbors<'m> {
     {
         match self.map.insert(address, neighbor) {
             Ok(_) => {}
+            // Never: one of the places is free, and lent places take no memory.
             Err(_) => {}
         }
     }

@@ -1,9 +1,11 @@
 //! What a run did, a row an event.
-ghost use Rattle.std.specs.Prelude.{◌≡◌, [], ◌∷◌, ◌++◌, List, OnOk, OnErr};
+ghost use Rattle.std.specs.Prelude.{◌≡◌, ◌≤◌, [], ◌∷◌, ◌++◌, List, length, OnOk, OnErr};
+ghost use Rattle.net_host.specs.Lines.{place_for};
 ghost use Rattle.net_host.specs.declared.report.Row.{Row};
 ghost use Rattle.net_host.specs.Report.{new_row};
 
 use ether_lax::FrameNote;
+use host_model::QueryLine;
 use net_wire::{Instant, Ipv4Cidr, NoMemory};
 use phy_layers::FrameBytes;
 use std::alloc::Global;
@@ -18,6 +20,8 @@ pub enum Kind {
     Tick,
     /// The DHCP client began anew.
     Reset,
+    /// The addresses of a name were asked for.
+    Query,
 }
 
 /// What a sent frame is for.
@@ -25,6 +29,8 @@ pub enum Kind {
 pub enum Mark {
     /// It carries a message of the DHCP client.
     Dhcp,
+    /// It carries a message of a query, to a place in the list of name servers.
+    Dns { query: u32, place: u32 },
     /// It tells a station that asked for the leased address where that is.
     ArpReply,
     /// It asks all stations for the next hop of a datagram.
@@ -56,7 +62,7 @@ impl Model for SentList {
 impl SentList {
     ghost use Rattle.std.specs.Prelude.{◌≡◌, [], ◌∷◌, ◌++◌, OnOk, OnErr};
 
-    /// No frame.
+    /// What is listed takes memory from `alloc`.
     pub fn new(alloc: Global) -> SentList
         ensures { result ≡ [] }
     {
@@ -65,7 +71,7 @@ impl SentList {
         }
     }
 
-    /// The frames.
+    /// The frame that was sent first stands first.
     pub fn as_slice(&self) -> &[Sent]
         ensures { result.now ≡ self.now }
     {
@@ -104,6 +110,97 @@ impl Eq for SentList {
     ghost laws = { lists_equiv laws-law };
 }
 
+/// Lines of queries: one that was refused first, then those that ended, by their numbers.
+#[derive(Clone, Debug, Drop)]
+pub struct LineList {
+    lines: Vec<QueryLine>,
+}
+
+impl Model for LineList {
+    ghost use Rattle.std.specs.Prelude.{List};
+    ghost use Rattle.host_model.specs.declared.query_line.QueryLine.{QueryLine};
+
+    ghost Value = { List QueryLine };
+
+    ghost view = { λ list. list.lines.items };
+}
+
+impl LineList {
+    ghost use Rattle.std.specs.Prelude.{◌≡◌, [], ◌∷◌, OnOk};
+    ghost use Rattle.host_model.specs.QueryLines.{with_line};
+
+    /// No line.
+    pub fn new(alloc: Global) -> LineList
+        ensures { result ≡ [] }
+    {
+        LineList {
+            lines: Vec::new(alloc),
+        }
+    }
+
+    /// The lines.
+    pub fn as_slice(&self) -> &[QueryLine]
+        ensures { result.now ≡ self.now }
+    {
+        self.lines.as_slice()
+    }
+
+    /// Puts a line in front of the first one whose query has a greater number.
+    #[tactic(auto, using(crate::proofs::LineLemmas::with_line_at))]
+    pub(crate) fn insert(&mut self, line: QueryLine) -> Result<(), NoMemory>
+        ensures { OnOk result (self.new ≡ with_line line self.old) }
+    {
+        let at = place_for(line.query, self.lines.as_slice());
+        match self.lines.insert(at, line) {
+            Ok(()) => Ok(()),
+            Err(_) => Err(NoMemory),
+        }
+    }
+
+    /// Puts a line in front of all others.
+    pub(crate) fn put_first(&mut self, line: QueryLine) -> Result<(), NoMemory>
+        ensures { OnOk result (self.new ≡ line ∷ self.old) }
+    {
+        match self.lines.insert(0, line) {
+            Ok(()) => Ok(()),
+            Err(_) => Err(NoMemory),
+        }
+    }
+}
+
+/// The place of the first line whose query has a greater number, or behind all of them.
+fn place_for(query: u32, lines: &[QueryLine]) -> usize
+    ensures value { result ≡ place_for query lines.now }
+    ensures within { result ≤ length lines.now }
+{
+    for at in 0..lines.len() {
+        if query < lines[at].query {
+            return at;
+        }
+    }
+    lines.len()
+}
+
+impl PartialEq for LineList {
+    ghost use Rattle.std.specs.Cmp.Lexicographic.{pointwise, lists_per};
+    ghost use Rattle.host_model.specs.contracts.query_line.QueryLinePartialEq.TheImpl.Laws.{laws-law};
+
+    ghost eq = { pointwise ⟦<QueryLine as PartialEq>⟧.eq };
+
+    ghost laws = { lists_per laws-law };
+
+    fn eq(&self, other: &LineList) -> bool {
+        self.lines == other.lines
+    }
+}
+
+impl Eq for LineList {
+    ghost use Rattle.std.specs.Cmp.Lexicographic.{lists_equiv};
+    ghost use Rattle.host_model.specs.contracts.query_line.QueryLineEq.TheImpl.Laws.{laws-law};
+
+    ghost laws = { lists_equiv laws-law };
+}
+
 /// What an event brought about.
 #[derive(Clone, Debug, Drop, PartialEq, Eq)]
 pub struct Row {
@@ -116,6 +213,8 @@ pub struct Row {
     pub lease: Option<Ipv4Cidr>,
     /// The frames that were sent.
     pub sent: SentList,
+    /// What became of queries in the event.
+    pub lines: LineList,
 }
 
 /// The rows of the events so far, in their order.
@@ -154,7 +253,7 @@ impl Eq for Report {
 }
 
 impl Report {
-    /// No row.
+    /// The rows take memory from `alloc`.
     pub fn new(alloc: Global) -> Report
         ensures { result ≡ [] }
     {
@@ -163,7 +262,7 @@ impl Report {
         }
     }
 
-    /// The rows.
+    /// The row of the first event stands first.
     pub fn rows(&self) -> &[Row]
         ensures { result.now ≡ self.now }
     {
@@ -189,6 +288,7 @@ impl Report {
             note,
             lease,
             sent: SentList::new(alloc),
+            lines: LineList::new(alloc),
         };
         match self.rows.push(row) {
             Ok(()) => Ok(()),
@@ -197,22 +297,23 @@ impl Report {
     }
 
     /// Fills the last row in, where there is one.
-    pub(crate) fn fill_last(&mut self, lease: Option<Ipv4Cidr>, sent: SentList)
+    pub(crate) fn fill_last(&mut self, lease: Option<Ipv4Cidr>, sent: SentList, lines: LineList)
         ensures { (rows : List Row) (row : Row) → self.old ≡ rows ++ row ∷ []
-            → self.new ≡ rows ++ record row { lease = lease; sent = sent } ∷ [] }
+            → self.new ≡ rows ++ record row { lease = lease; sent = sent; lines = lines } ∷ [] }
     {
-        fill_last(self.rows.as_mut_slice(), lease, sent);
+        fill_last(self.rows.as_mut_slice(), lease, sent, lines);
     }
 }
 
-fn fill_last(rows: &mut [Row], lease: Option<Ipv4Cidr>, sent: SentList)
+fn fill_last(rows: &mut [Row], lease: Option<Ipv4Cidr>, sent: SentList, lines: LineList)
     ensures { (before : List Row) (row : Row) → rows.old ≡ before ++ row ∷ []
-        → rows.new ≡ before ++ record row { lease = lease; sent = sent } ∷ [] }
+        → rows.new ≡ before ++ record row { lease = lease; sent = sent; lines = lines } ∷ [] }
 {
     let count = rows.len();
     if count > 0 {
         let row = &mut rows[count - 1];
         row.lease = lease;
         row.sent = sent;
+        row.lines = lines;
     }
 }

@@ -1,5 +1,5 @@
 //! A whole run: a script in, a capture and a report out.
-ghost use Rattle.std.specs.Prelude.{◌≡◌, ℕ, ◌+◌, ◌*◌, ◌<◌, ◌≤◌, ◌⊎◌, ℤ, List, [], length, IfErr, IfOk, IfSome, IfNone, OnOk};
+ghost use Rattle.std.specs.Prelude.{◌≡◌, ℕ, ◌+◌, ◌*◌, ◌<◌, ◌≤◌, ◌⊎◌, ℤ, List, [], length, None, replicate, IfErr, IfOk, IfSome, IfNone, OnOk};
 ghost use Rattle.std.specs.Result.{IsErrOf};
 ghost use Rattle.wire_base.specs.Causes.{IsRisen};
 ghost use Rattle.phy_layers.specs.Sink.{Took};
@@ -12,6 +12,9 @@ ghost use Rattle.net_host.specs.Report.{AreCapturable};
 ghost use Rattle.net_host.specs.Handling.{CanHandle};
 ghost use Rattle.net_host.specs.Neighbors.{pair_count, place_count};
 ghost use Rattle.net_host.specs.Polling.{IsReady};
+ghost use Rattle.dns_client.specs.Client.{client_of};
+ghost use Rattle.net_host.specs.QueryPolling.{AreLent};
+ghost use Rattle.net_host.specs.QueryReady.{HoldsQueries};
 ghost use Rattle.net_host.specs.Rows.{kind_of, IsNoteFor};
 ghost use Rattle.net_host.specs.Outside.{outside_of, IsQuiet};
 ghost use Rattle.net_host.specs.Run.{task_of, Finished, Leaves, HasCause, Completes};
@@ -23,6 +26,7 @@ use crate::neighbors::Neighbors;
 use crate::{
     EventReader, HostConfig, Kind, ReadEventError, Report, ScriptEvent, ScriptSource, Sent,
 };
+use dns_client::DnsQuery;
 use ether_lax::{FrameNote, LaxSlicedPacket, NotedFrame, packet_and_note};
 use host_model::{EventWords, Neighbor};
 use net_wire::{Instant, Ipv4Address, NoMemory};
@@ -115,6 +119,7 @@ fn kind_of(event: ScriptEvent<'_>) -> Kind
         },
         ScriptEvent::Tick => Kind::Tick,
         ScriptEvent::Reset => Kind::Reset,
+        ScriptEvent::Query { .. } => Kind::Query,
     }
 }
 
@@ -139,7 +144,7 @@ fn dissect(event: ScriptEvent<'_>) -> Dissected<'_>
                 packet,
             }
         }
-        ScriptEvent::Tick | ScriptEvent::Reset => Dissected {
+        ScriptEvent::Tick | ScriptEvent::Reset | ScriptEvent::Query { .. } => Dissected {
             note: None,
             packet: None,
         },
@@ -159,8 +164,7 @@ fn capture_arrived<C: PcapSink>(
 {
     match event {
         ScriptEvent::Frame(frame) => capture.packet(at, frame),
-        ScriptEvent::Tick => Ok(()),
-        ScriptEvent::Reset => Ok(()),
+        ScriptEvent::Tick | ScriptEvent::Reset | ScriptEvent::Query { .. } => Ok(()),
     }
 }
 
@@ -206,15 +210,28 @@ fn take_event<C: PcapSink>(
     ensures ready { OnOk result (IsReady host.new.dhcp host.new.ip_mtu) }
     ensures places { OnOk result (place_count host.new.out.neighbors ≡ place_count host.old.out.neighbors) }
     ensures few { OnOk result (pair_count host.new.out.neighbors ≤ pair_count host.old.out.neighbors + 1) }
+    ensures lent { OnOk result (AreLent (client_of host.new.dns)) }
+    ensures holds { OnOk result (HoldsQueries host.new) }
+    ensures queries { OnOk result (host.new.queries ≤ host.old.queries + 1) }
 {
     let Dissected { note, packet } = dissect(event);
     report.begin(host.out.alloc, at, kind_of(event), note, host.lease())?;
     capture_arrived(capture, at, event)?;
     let handled = host.handle(at, event, packet.as_ref(), words)?;
     let captured = capture_sent(capture, at, handled.sent.as_slice());
-    report.fill_last(handled.lease, handled.sent);
+    report.fill_last(handled.lease, handled.sent, handled.lines);
     captured?;
     Ok(())
+}
+
+/// Slots for queries, all free.
+fn no_queries() -> [Option<DnsQuery>; 16]
+    ensures { result ≡ replicate 16 None }
+{
+    [
+        None, None, None, None, None, None, None, None, None, None, None, None, None, None, None,
+        None,
+    ]
 }
 
 /// A place for the neighbour that each event may tell of.
@@ -265,7 +282,8 @@ pub fn run<S: ScriptSource, C: PcapSink>(
     let mut places = empty_places(alloc, max_events)?;
     capture.global_header(PcapLinkType::Ethernet)?;
     let neighbors = Neighbors::new(places.as_mut_slice());
-    let mut host = Host::new(alloc, config, neighbors);
+    let mut slots = no_queries();
+    let mut host = Host::new(alloc, config, neighbors, &mut slots);
     for count in 0..max_events + 1 {
         let Some(head) = reader.next(source, max_events)? else {
             return Ok(());

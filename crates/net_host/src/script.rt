@@ -3,14 +3,17 @@ ghost use Rattle.std.specs.Prelude.{◌≡◌, ℕ, ◌<◌, ◌≤◌, true, fa
 ghost use Rattle.std.specs.Result.{IsErrOf};
 ghost use Rattle.std.specs.Io.KnownBytes.{Consumes, IsAtEnd};
 ghost use Rattle.wire_base.specs.Causes.{IsRisen};
-ghost use Rattle.host_model.specs.Script.{Arrival, kind_byte};
+ghost use Rattle.host_model.specs.Script.{SpellsArrival};
+ghost use Rattle.host_model.specs.Parts.{IsKind};
 ghost use Rattle.net_host.specs.Source.{Filled};
-ghost use Rattle.net_host.specs.Head.{byte_of, rest_bytes, GivesHead, GivesRest, CutsRest};
-ghost use Rattle.net_host.specs.Reading.{EndsWith};
-ghost use Rattle.net_host.specs.declared.script.EventKind.TheVariants as kinds;
+ghost use Rattle.net_host.specs.Head.{byte_of, GivesHead, CutsHead, GivesType, GivesName, CutsName, GivesRest, CutsRest};
+ghost use Rattle.net_host.specs.Reading.{arrival_with};
+ghost use Rattle.net_host.specs.declared.script.EventKind.{EventKind};
+ghost use Rattle.net_host.specs.declared.script.KindByte.TheVariants as kinds;
 ghost use Rattle.net_host.specs.declared.script.ReadEventError.TheVariants.{Script, Limit, Read};
 
 use crate::{ReadFault, ScriptSource};
+use net_wire::dns::DnsType;
 
 /// What an event brings.
 #[derive(Clone, Copy, Debug, PartialEq, Eq)]
@@ -21,6 +24,13 @@ pub enum ScriptEvent<'a> {
     Tick,
     /// The DHCP client begins anew, without a lease.
     Reset,
+    /// The addresses of a name are asked for.
+    Query {
+        /// At most 255 bytes, in UTF-8 (RFC 3629).
+        name: &'a [u8],
+        /// A type of addresses: `A` or `Aaaa`.
+        query_type: DnsType,
+    },
 }
 
 /// Why the next event was not read.
@@ -51,17 +61,46 @@ pub enum EventKind {
     Frame,
     Tick,
     Reset,
+    /// With the type of the addresses that are asked for.
+    Query(DnsType),
+}
+
+/// What is known of an event besides the bytes that it brings.
+#[derive(Clone, Copy, Debug, PartialEq, Eq)]
+pub struct EventHead {
+    pub kind: EventKind,
+    /// The time of the event.
+    pub micros: u64,
+}
+
+/// What the first byte of an event names.
+#[derive(Clone, Copy, Debug)]
+pub(crate) enum KindByte {
+    Frame,
+    Tick,
+    /// A query for the type `A`.
+    Query,
+    Reset,
+    /// A query whose type stands in front of its name.
+    TypedQuery,
 }
 
 /// How many bytes stand in front of what an event brings.
 pub(crate) const HEAD_LEN: u64 = 9;
 
 /// The kind and the time of an event: what stands in front of what it brings.
-#[derive(Clone, Copy, Debug, PartialEq, Eq)]
-pub struct EventHead {
-    pub kind: EventKind,
-    /// The time of the event.
+#[derive(Clone, Copy, Debug)]
+pub(crate) struct HeadParts {
+    pub kind: KindByte,
     pub micros: u64,
+}
+
+/// What stands behind the head of an event; the bytes of its frame or its name are in a buffer.
+#[derive(Clone, Copy, Debug)]
+pub(crate) struct RestParts {
+    pub kind: EventKind,
+    /// How many bytes of the buffer there are.
+    pub len: usize,
 }
 
 /// Times lie below 2^32 seconds.
@@ -83,14 +122,16 @@ pub(crate) fn fill<S: ScriptSource>(source: &mut S, into: &mut [u8]) -> Result<b
 }
 
 /// The kind that a byte names.
-fn kind_named(byte: u8) -> Option<EventKind>
+fn kind_named(byte: u8) -> Option<KindByte>
     ensures found { IfSome result (λ kind. byte ≡ byte_of kind) }
-    ensures refuses { IfNone result ((arrival : Arrival) → byte ≡ kind_byte arrival → ⊥) }
+    ensures refuses { IfNone result (IsKind byte → ⊥) }
 {
     match byte {
-        1 => Some(EventKind::Frame),
-        2 => Some(EventKind::Tick),
-        4 => Some(EventKind::Reset),
+        1 => Some(KindByte::Frame),
+        2 => Some(KindByte::Tick),
+        3 => Some(KindByte::Query),
+        4 => Some(KindByte::Reset),
+        5 => Some(KindByte::TypedQuery),
         _ => None,
     }
 }
@@ -103,14 +144,12 @@ pub(crate) fn read_head<S: ScriptSource>(
     last_micros: u64,
     offset: u64,
     is_full: bool,
-) -> Result<Option<EventHead>, ReadEventError>
+) -> Result<Option<HeadParts>, ReadEventError>
     ensures found { IfOk result (λ found. IfSome found (λ head.
         (is_full ≡ false) × GivesHead last_micros (S.left source.old) (S.left source.new) head)) }
     ensures ended { IfOk result (λ found. IfNone found (
         IsAtEnd (S.left source.old) × IsAtEnd (S.left source.new))) }
-    ensures err { IfErr result (λ e. (part : List ℕ)
-        × Consumes (S.left source.old) (S.left source.new) part
-        × EndsWith e last_micros (S.left source.new) part) }
+    ensures err { IfErr result (λ e. CutsHead e last_micros is_full (S.left source.old) (S.left source.new)) }
     ensures script { IfErr result (λ e. (o : ℕ) → e ≡ Script o → (o ≡ offset) × (is_full ≡ false)) }
     ensures limit { IsErrOf result Limit → is_full ≡ true }
     ensures read { IsErrOf result Read → IsRisen (S.faults source.old) (S.faults source.new) }
@@ -135,22 +174,21 @@ pub(crate) fn read_head<S: ScriptSource>(
     if micros < last_micros || micros >= TIME_LIMIT {
         return Err(ReadEventError::Script(offset));
     }
-    Ok(Some(EventHead { kind, micros }))
+    Ok(Some(HeadParts { kind, micros }))
 }
 
-/// The most bytes of a frame.
+/// The most bytes that an event brings: those of a frame.
 pub(crate) const FRAME_LEN: usize = 65_535;
 
-/// Reads a frame and the length in front of it. The frame goes to the front of `into`; answers its length.
-/// `offset` is the place of the event's first byte on the script.
+/// Reads a frame and the length in front of it. The frame goes to the front of `into`. `offset` is the place
+/// of the event's first byte on the script.
 fn read_frame<S: ScriptSource>(
     source: &mut S,
     offset: u64,
     into: &mut [u8],
-) -> Result<usize, ReadEventError>
+) -> Result<RestParts, ReadEventError>
     requires room { length into.old ≡ 65535 }
-    ensures found { IfOk result (λ len.
-        GivesRest kinds.Frame (S.left source.old) (S.left source.new) into.new len) }
+    ensures found { IfOk result (GivesRest kinds.Frame (S.left source.old) (S.left source.new) into.new) }
     ensures err { IfErr result (λ e. CutsRest e kinds.Frame (S.left source.old) (S.left source.new)) }
     ensures script { IfErr result (λ e. (o : ℕ) → e ≡ Script o → o ≡ offset) }
     ensures read { IsErrOf result Read → IsRisen (S.faults source.old) (S.faults source.new) }
@@ -165,20 +203,70 @@ fn read_frame<S: ScriptSource>(
     if !fill(source, &mut into[..len])? {
         return Err(ReadEventError::Script(offset));
     }
-    Ok(len)
+    Ok(RestParts {
+        kind: EventKind::Frame,
+        len,
+    })
 }
 
-/// Reads what stands behind the head of an event. A frame goes to the front of `into`; answers how long it
-/// is.
-pub(crate) fn read_rest<S: ScriptSource>(
+/// Reads the type of a query. `offset` is the place of the event's first byte on the script.
+fn read_type<S: ScriptSource>(source: &mut S, offset: u64) -> Result<DnsType, ReadEventError>
+    ensures found { IfOk result (GivesType (S.left source.old) (S.left source.new)) }
+    ensures err { IfErr result (λ e. CutsRest e kinds.TypedQuery (S.left source.old) (S.left source.new)) }
+    ensures script { IfErr result (λ e. (o : ℕ) → e ≡ Script o → o ≡ offset) }
+    ensures read { IsErrOf result Read → IsRisen (S.faults source.old) (S.faults source.new) }
+    ensures quiet { (IsErrOf result Read → ⊥) → S.faults source.new ≡ S.faults source.old }
+    ensures later { S.faults source.old ≤ S.faults source.new }
+{
+    let mut number = [0u8; 2];
+    if !fill(source, &mut number)? {
+        return Err(ReadEventError::Script(offset));
+    }
+    match u16::from_be_bytes(number) {
+        1 => Ok(DnsType::A),
+        28 => Ok(DnsType::Aaaa),
+        _ => Err(ReadEventError::Script(offset)),
+    }
+}
+
+/// Reads a name and the length in front of it. The name goes to the front of `into`; answers its length.
+/// `offset` is the place of the event's first byte on the script.
+fn read_name<S: ScriptSource>(
     source: &mut S,
-    kind: EventKind,
     offset: u64,
     into: &mut [u8],
 ) -> Result<usize, ReadEventError>
     requires room { length into.old ≡ 65535 }
-    ensures found { IfOk result (λ len.
-        GivesRest kind (S.left source.old) (S.left source.new) into.new len) }
+    ensures found { IfOk result (GivesName (S.left source.old) (S.left source.new) into.new) }
+    ensures err { IfErr result (λ e. CutsName e (S.left source.old) (S.left source.new)) }
+    ensures script { IfErr result (λ e. (o : ℕ) → e ≡ Script o → o ≡ offset) }
+    ensures read { IsErrOf result Read → IsRisen (S.faults source.old) (S.faults source.new) }
+    ensures quiet { (IsErrOf result Read → ⊥) → S.faults source.new ≡ S.faults source.old }
+    ensures later { S.faults source.old ≤ S.faults source.new }
+{
+    let mut len = [0u8; 1];
+    if !fill(source, &mut len)? {
+        return Err(ReadEventError::Script(offset));
+    }
+    let len = usize::from(len[0]);
+    if !fill(source, &mut into[..len])? {
+        return Err(ReadEventError::Script(offset));
+    }
+    match std::str::from_utf8(&into[..len]) {
+        Ok(_) => Ok(len),
+        Err(_) => Err(ReadEventError::Script(offset)),
+    }
+}
+
+/// Reads what stands behind the head of an event. A frame or a name goes to the front of `into`.
+pub(crate) fn read_rest<S: ScriptSource>(
+    source: &mut S,
+    kind: KindByte,
+    offset: u64,
+    into: &mut [u8],
+) -> Result<RestParts, ReadEventError>
+    requires room { length into.old ≡ 65535 }
+    ensures found { IfOk result (GivesRest kind (S.left source.old) (S.left source.new) into.new) }
     ensures err { IfErr result (λ e. CutsRest e kind (S.left source.old) (S.left source.new)) }
     ensures script { IfErr result (λ e. (o : ℕ) → e ≡ Script o → o ≡ offset) }
     ensures read { IsErrOf result Read → IsRisen (S.faults source.old) (S.faults source.new) }
@@ -186,21 +274,45 @@ pub(crate) fn read_rest<S: ScriptSource>(
     ensures later { S.faults source.old ≤ S.faults source.new }
 {
     match kind {
-        EventKind::Frame => read_frame(source, offset, into),
-        EventKind::Tick => Ok(0),
-        EventKind::Reset => Ok(0),
+        KindByte::Frame => read_frame(source, offset, into),
+        KindByte::Tick => Ok(RestParts {
+            kind: EventKind::Tick,
+            len: 0,
+        }),
+        KindByte::Reset => Ok(RestParts {
+            kind: EventKind::Reset,
+            len: 0,
+        }),
+        KindByte::Query => {
+            let len = read_name(source, offset, into)?;
+            Ok(RestParts {
+                kind: EventKind::Query(DnsType::A),
+                len,
+            })
+        }
+        KindByte::TypedQuery => {
+            let query_type = read_type(source, offset)?;
+            let len = read_name(source, offset, into)?;
+            Ok(RestParts {
+                kind: EventKind::Query(query_type),
+                len,
+            })
+        }
     }
 }
 
-/// How many bytes stand behind the head of an event, with so many of a frame.
-pub(crate) fn rest_len(kind: EventKind, frame_len: usize) -> u64
-    requires { frame_len ≤ 65535 }
-    ensures value { (frame : List ℕ) → length frame ≡ frame_len → result ≡ length (rest_bytes kind frame) }
-    ensures within { result ≤ 65537 }
+/// How many bytes stand behind the head of an event, with so many of a frame or a name.
+pub(crate) fn rest_len(kind: KindByte, len: usize) -> u64
+    requires { len ≤ 65535 }
+    ensures value { (event_kind : EventKind) (brought bytes : List ℕ)
+        → SpellsArrival (arrival_with event_kind brought) (byte_of kind) bytes
+        → length brought ≡ len → result ≡ length bytes }
+    ensures within { result ≤ 65538 }
 {
     match kind {
-        EventKind::Frame => frame_len as u64 + 2,
-        EventKind::Tick => 0,
-        EventKind::Reset => 0,
+        KindByte::Frame => len as u64 + 2,
+        KindByte::Tick | KindByte::Reset => 0,
+        KindByte::Query => len as u64 + 1,
+        KindByte::TypedQuery => len as u64 + 3,
     }
 }

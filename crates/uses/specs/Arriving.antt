@@ -12,8 +12,8 @@ abbrev pub is_dhcp_reply : Option Datagram → Bool
 is_dhcp_reply None = false
 is_dhcp_reply (Some datagram) = (datagram.source_port == 67) && (datagram.destination_port == 68)
 
--- The reply to a request has its fields swapped, with the hardware address that was asked for in the sender's,
--- and goes to who asked (RFC 826, section "Packet Reception").
+-- The reply to a request has its fields swapped, with the hardware address that was asked for in the
+-- sender's, and goes to who asked (RFC 826, section "Packet Reception").
 abbrev pub reply_to : EthernetAddress → ArpRepr → ArpRepr
 reply_to hardware request = record {
   operation = 2;
@@ -30,5 +30,6 @@ asks_for address arp = (arp.operation == 1) && pointwise nat_eq arp.target_proto
 abbrev pub answer_to : EthernetAddress → Ipv4Address → Option ArpRepr → Option (List ℕ)
 answer_to hardware address None = None
 answer_to hardware address (Some arp) =
-    if asks_for address arp then Some (arp_frame_bytes hardware arp.source_hardware_addr (reply_to hardware arp))
+    if asks_for address arp
+    then Some (arp_frame_bytes hardware arp.source_hardware_addr (reply_to hardware arp))
     else None

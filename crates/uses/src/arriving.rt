@@ -43,7 +43,8 @@ fn asks_for(arp: &ArpRepr, address: Ipv4Address) -> bool
 }
 
 fn reply_frame(request: &ArpRepr, hardware: EthernetAddress) -> [u8; 42]
-    ensures { result ≡ arp_frame_bytes hardware request.now.source_hardware_addr (reply_to hardware request.now) }
+    ensures { result
+        ≡ arp_frame_bytes hardware request.now.source_hardware_addr (reply_to hardware request.now) }
 {
     let eth = EthernetRepr {
         src_addr: hardware,

@@ -9,13 +9,7 @@ pub mod headers;
 pub mod ipsec;
 pub mod layers;
 pub mod leases;
-#[cfg(test)]
-mod packet_tests;
 pub mod printing;
 pub mod queries;
-#[cfg(test)]
-mod query_tests;
 pub mod runs;
 pub mod sums;
-#[cfg(test)]
-mod tests;

@@ -36,7 +36,8 @@ pub fn finish(
     handle: QueryHandle,
 ) -> Result<ArrayVec<IpAddress, 4>, GetQueryResultError>
     requires { IsSome (slot_at (client_of socket.old).slots handle) }
-    ensures value { IfSome (slot_at (client_of socket.old).slots handle) (λ query. result ≡ query_result query) }
+    ensures value { IfSome (slot_at (client_of socket.old).slots handle)
+        (λ query. result ≡ query_result query) }
     ensures freed { IsFalse (is_some (slot_at (client_of socket.new).slots handle)) }
 {
     let result = socket.get_query_result(handle);

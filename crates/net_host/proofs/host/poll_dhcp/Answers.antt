@@ -1,5 +1,4 @@
 -- One dispatch more; the end, where the client is not due; and where it waits for a hop.
-use Rattle.std.proofs.Common.{Ok}
 use Rattle.net_host.specs.Emitter.{TakesMessage, RefusesMessage}
 use Rattle.net_host.specs.Polling.{IsQuiet, GoesOn, Waits}
 use Rattle.net_host.proofs.PollingLemmas.{before_last, le_of_test, lt_of_test}

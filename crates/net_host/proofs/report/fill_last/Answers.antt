@@ -7,5 +7,5 @@ pub returns-then-count-gt0 : goal.returns-then-count-gt0
 returns-then-count-gt0 c = λ before row same.
     let found = get_or c.args.rows.now (length c.args.rows.now - 1) c.index-rows-count.result in
     let is_row = last_is c.args.rows.now before row c.index-rows-count.result (length c.args.rows.now) same refl in
-    let filled : Row → Row = λ r. record r { lease = c.args.lease; sent = c.args.sent } in
+    let filled : Row → Row = λ r. record r { lease = c.args.lease; sent = c.args.sent; lines = c.args.lines } in
     last_set c.args.rows.now before row (filled found) (length c.args.rows.now) same refl ∙ ap (λ r. before ++ filled r ∷ []) is_row

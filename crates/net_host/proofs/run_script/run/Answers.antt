@@ -54,6 +54,10 @@ loop-count-init g c =
       ready = c.new-host.ensures.ready;
       places = rw (c.new-host.ensures.neighbors, c.new-neighbors.ensures) (ap length c.as_mut_slice.ensures.value ∙ c.in_ok-places.ensures);
       few = rw (c.new-host.ensures.neighbors, c.new-neighbors.ensures) (omega arith);
+      lent = c.new-host.ensures.lent;
+      holds = c.new-host.ensures.holds;
+      queries = omega (arith, c.new-host.ensures.queries);
+      most = c.requires.max;
     })
 
 pub returns-in_err-head-clause-leaves : goal.returns-in_err-head-clause-leaves
@@ -121,7 +125,13 @@ take_event-requires-clause-can g c =
     let now = c.loop-count in
     let gives = given_event c.args.max_events now.reader c.next.new.self (g.S.ScriptSource.left now.source) (g.S.ScriptSource.left c.next.new.source)
     c.in-Some.head c.event-at.result.0 c.event-at.result.1 (rw c.in-Some.is at c.in_ok-head.ensures.found) c.event-at.ensures.event c.event-at.ensures.time in
-    record { ready = now.invariant.ready; room = omega (arith, now.invariant.few, now.invariant.places, now.invariant.counted, gives.gives.within) }
+    record {
+      ready = now.invariant.ready;
+      lent = now.invariant.lent;
+      holds = now.invariant.holds;
+      few = omega (arith, now.invariant.queries, now.invariant.counted, now.invariant.most, gives.gives.within);
+      room = omega (arith, now.invariant.few, now.invariant.places, now.invariant.counted, gives.gives.within);
+    }
 
 pub returns-in_err-take_event-clause-leaves : goal.returns-in_err-take_event-clause-leaves
 returns-in_err-take_event-clause-leaves g c =
@@ -177,4 +187,8 @@ loop-count-preserved g c =
       ready = c.in_ok-take_event.ensures.ready;
       places = c.in_ok-take_event.ensures.places ∙ now.invariant.places;
       few = omega (arith, c.in_ok-take_event.ensures.few, now.invariant.few);
+      lent = c.in_ok-take_event.ensures.lent;
+      holds = c.in_ok-take_event.ensures.holds;
+      queries = omega (arith, c.in_ok-take_event.ensures.queries, now.invariant.queries);
+      most = now.invariant.most;
     }

@@ -1,8 +1,11 @@
 -- The events so far were read and answered.
 use Rattle.std.proofs.Common.{◌≡◌, ◌≤◌, false, IfSome}
+use Rattle.dns_client.specs.Client.{client_of}
 use Rattle.net_host.specs.Neighbors.{pair_count, place_count}
 use Rattle.net_host.specs.Outside.{outside_of, IsQuiet}
 use Rattle.net_host.specs.Polling.{IsReady}
+use Rattle.net_host.specs.QueryPolling.{AreLent}
+use Rattle.net_host.specs.QueryReady.{HoldsQueries}
 use Rattle.net_host.specs.Run.{task_of}
 use Rattle.net_host.proofs.ProgressLemmas.{Progress}
 use Rattle.net_host.proofs.run_script.run.Given as goal
@@ -21,4 +24,8 @@ invariant-loop-count g l =
       ready : IsReady l.host.dhcp l.host.ip_mtu;
       places : place_count l.host.out.neighbors ≡ l.max_events;
       few : pair_count l.host.out.neighbors ≤ l.count;
+      lent : AreLent (client_of l.host.dns);
+      holds : HoldsQueries l.host;
+      queries : l.host.queries ≤ l.count;
+      most : l.max_events ≤ 10000;
     }

@@ -2,8 +2,15 @@
 use Rattle.std.proofs.Common.{inl, inr, Ok, ap, ◌∙◌, refl, arith, length-take}
 use Rattle.std.proofs.lemmas.Result.{err_from_is_err_and}
 use Rattle.net_host.specs.declared.script.ReadEventError.TheVariants.{Script, Read}
-use Rattle.net_host.proofs.RestLemmas.{cut_frame}
+use Rattle.net_host.proofs.CutRestLemmas.{cut_length, cut_frame}
 use Rattle.net_host.proofs.script.read_frame.Goals as goal
+
+pub returns-in_err-fill-clause-err : goal.returns-in_err-fill-clause-err
+returns-in_err-fill-clause-err g c =
+    let left = g.S.ScriptSource.left in
+    let refused = err_from_is_err_and c.from_residual.result c.from_residual.ensures.1 in
+    let front = c.in_err-fill.ensures.failed in
+    rw (refused.1, refused.2) (cut_length Read (left c.args.source.now) (left c.fill.new.source) front.0 (omega (arith, front.1)) front.2 (inl refl))
 
 pub returns-in_err-fill-2-clause-err : goal.returns-in_err-fill-2-clause-err
 returns-in_err-fill-2-clause-err g c =

@@ -1,7 +1,10 @@
 -- A host that has seen nothing agrees with no event.
-use Rattle.std.proofs.Common.{◌∙◌, ap, sym, refl, subst, arith}
-use Rattle.dhcp_client.specs.Client.{Client, new_client}
-use Rattle.dhcp_client.specs.Config.{ClientSettings}
+use Rattle.std.proofs.Common.{List, [], None, ◌∙◌, ap, refl, sym, subst}
+use Rattle.net_wire.specs.declared.address.IpAddress.{IpAddress}
+use Rattle.dhcp_client.specs.Client.{new_client}
+use Rattle.host_model.specs.Anchor.{Loss}
+use Rattle.host_model.specs.QuerySlots.{no_queries}
+use Rattle.net_host.specs.Following.{AgreesUnder}
 use Rattle.net_host.proofs.NeighborLemmas.{none_agrees}
 use Rattle.net_host.proofs.ReadyLemmas.{new_ready}
 use Rattle.net_host.proofs.HoldingLemmas.{new_agrees}
@@ -11,15 +14,40 @@ pub with_config-requires : goal.with_config-requires
 with_config-requires c = c.client.ensures.parameters
 
 pub returns-clause-agrees : goal.returns-clause-agrees
-returns-clause-agrees c = record {
-  hardware = c.hardware.ensures.value;
-  ip_mtu = c.ip_mtu.ensures;
-  held = refl;
-  neighbors = none_agrees c.args.config.now c.args.neighbors c.requires;
-  dhcp = new_agrees c.args.config.now c.with_config.result (c.with_config.ensures ∙ ap new_client c.client.ensures.value);
-}
+returns-clause-agrees c =
+    let none = ap (λ client. client.servers) c.new.ensures.value in
+    record {
+      hardware = c.hardware.ensures.value;
+      ip_mtu = c.ip_mtu.ensures;
+      held = refl;
+      neighbors = none_agrees c.args.config.now c.args.neighbors c.requires.neighbors;
+      dhcp = subst (λ (servers : List IpAddress).
+          AgreesUnder c.args.config.now [] (Loss 0) (record { held = None; servers = servers }) c.with_config.result) (sym none)
+          (new_agrees c.args.config.now c.with_config.result (c.with_config.ensures ∙ ap new_client c.client.ensures.value));
+      queries = record {
+        stand = record {
+          servers_are = none;
+          slots_are = ap (λ client. client.slots) c.new.ensures.value ∙ c.requires.slots;
+          numbers_are = refl;
+          no_hop_limit = ap (λ client. client.hop_limit) c.new.ensures.value;
+        };
+        count_is = refl;
+      };
+    }
 
 pub returns-clause-ready : goal.returns-clause-ready
 returns-clause-ready c =
     new_ready c.args.config.now c.with_config.result c.ip_mtu.result (c.with_config.ensures ∙ ap new_client c.client.ensures.value)
     c.ip_mtu.ensures c.hardware.ensures.runs
+
+pub returns-clause-holds : goal.returns-clause-holds
+returns-clause-holds c = record {
+  servers = [];
+  slots = no_queries;
+  stand = record {
+    servers_are = ap (λ client. client.servers) c.new.ensures.value;
+    slots_are = ap (λ client. client.slots) c.new.ensures.value ∙ c.requires.slots;
+    numbers_are = refl;
+    no_hop_limit = ap (λ client. client.hop_limit) c.new.ensures.value;
+  };
+}
