@@ -1,5 +1,0 @@
-use Rattle.host_program.proofs.CommandLemmas.{names_one}
-use Rattle.host_program.proofs.command.one_command.Goals as goal
-
-pub returns : goal.returns
-returns c = names_one

@@ -1,0 +1,14 @@
+pub mod CommandLemmas
+pub mod DigitLemmas
+pub mod EndingLemmas
+pub mod HexLemmas
+pub mod JoinLemmas
+pub mod MakingLemmas
+pub mod OneSettingLemmas
+pub mod RanLemmas
+pub mod SettingLemmas
+pub mod SettingWordLemmas
+pub mod StatusLemmas
+pub mod TextLemmas
+pub mod WalkLemmas
+pub mod WordLemmas

@@ -1,0 +1,13 @@
+pub mod AddressText
+pub mod Command
+pub mod Ending
+pub mod Generator
+pub mod HostMain
+pub mod Making
+pub mod Printing
+pub mod QueryText
+pub mod ReportText
+pub mod Setting
+pub mod Summary
+pub mod Text
+pub mod Word

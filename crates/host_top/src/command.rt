@@ -1,0 +1,96 @@
+//! The words of a command.
+ghost use Rattle.std.specs.Prelude.{ℕ, map, string_bytes, IfSome, IfNone};
+ghost use Rattle.host_top.specs.Command.{Names, IsTaken, NamesOne, WritesRun, WritesMake, IsCountWord};
+
+use crate::setting::{RunSettings, settings_of};
+use crate::word::{address_of, number_of, u32_of};
+use net_wire::EthernetAddress;
+
+/// What the program is asked for.
+#[derive(Clone, Copy, Debug, PartialEq, Eq)]
+pub enum Command {
+    Run(RunCommand),
+    Make(MakeCommand),
+}
+
+/// Run the host on the script of standard input.
+#[derive(Clone, Copy, Debug, PartialEq, Eq)]
+pub struct RunCommand {
+    pub hardware: EthernetAddress,
+    /// The seed of the words of the events.
+    pub seed: u32,
+    /// The most events that the script may have.
+    pub max_events: u32,
+    pub settings: RunSettings,
+}
+
+/// Make a script, and run the host on that.
+#[derive(Clone, Copy, Debug, PartialEq, Eq)]
+pub struct MakeCommand {
+    /// The seed of the words of the events.
+    pub seed: u32,
+    /// How many events the script has.
+    pub count: u32,
+}
+
+/// The command that the words name.
+pub fn parse(words: &[String]) -> Option<Command>
+    ensures found { IfSome result (Names (map string_bytes words.now)) }
+    ensures refuses { IfNone result (IsTaken (map string_bytes words.now) → ⊥) }
+{
+    let [name, words @ ..] = words else {
+        return None;
+    };
+    match name.as_bytes() {
+        b"run" => Some(Command::Run(run_of(words)?)),
+        b"make" => Some(Command::Make(make_of(words)?)),
+        _ => None,
+    }
+}
+
+/// The run that the words behind `run` name.
+fn run_of(words: &[String]) -> Option<RunCommand>
+    ensures found { IfSome result (WritesRun (map string_bytes words.now)) }
+    ensures refuses { IfNone result ((run : RunCommand) → WritesRun (map string_bytes words.now) run → ⊥) }
+{
+    let [hardware, seed, max_events, settings @ ..] = words else {
+        return None;
+    };
+    Some(RunCommand {
+        hardware: address_of(hardware.as_bytes())?,
+        seed: u32_of(seed.as_bytes())?,
+        max_events: count_of(max_events.as_bytes())?,
+        settings: settings_of(settings)?,
+    })
+}
+
+/// What the words behind `make` name.
+fn make_of(words: &[String]) -> Option<MakeCommand>
+    ensures found { IfSome result (WritesMake (map string_bytes words.now)) }
+    ensures refuses { IfNone result ((make : MakeCommand) → WritesMake (map string_bytes words.now) make → ⊥) }
+{
+    let [seed, count] = words else {
+        return None;
+    };
+    Some(MakeCommand {
+        seed: u32_of(seed.as_bytes())?,
+        count: count_of(count.as_bytes())?,
+    })
+}
+
+/// The number of events that a word writes.
+fn count_of(word: &[u8]) -> Option<u32>
+    ensures found { IfSome result (IsCountWord word.now) }
+    ensures refuses { IfNone result ((count : ℕ) → IsCountWord word.now count → ⊥) }
+{
+    let number = number_of(word, 10, 5)?;
+    if number < 1 || number > 10_000 {
+        return None;
+    }
+    Some(number as u32)
+}
+
+/// Words name one command at most.
+pub fn one_command()
+    ensures { NamesOne }
+{}

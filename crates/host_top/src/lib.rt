@@ -1,0 +1,19 @@
+//! The program as a function: the words of a command, a script, a capture and an output go in, and a status comes out. Beside it
+//! stand the words, the capture file and the standard output of a process.
+#![tactic(auto)]
+
+pub mod address_text;
+pub mod arguments;
+pub mod capture_file;
+pub mod command;
+pub mod ending;
+pub mod generator;
+pub mod host_main;
+pub mod lazy_file;
+pub mod output;
+pub mod query_text;
+pub mod report_text;
+pub mod setting;
+pub mod summary;
+pub mod text;
+pub mod word;
