@@ -50,19 +50,19 @@ def secs(number):
     return struct.pack(">I", number)
 
 
-def reply_of(kind, ident, lease=1000, more=()):
+def reply_of(kind, ident, lease=1000, more=(), names=NAMES):
     """The message of the server: its lease is in seconds."""
     options = [(53, bytes([kind])), (54, ROUTER)]
     if kind != NAK:
-        options += [(3, ROUTER), (1, bytes([255, 255, 255, 0])), (51, secs(lease)), *more, (6, NAMES)]
+        options += [(3, ROUTER), (1, bytes([255, 255, 255, 0])), (51, secs(lease)), *more, (6, names)]
     return dhcp_message(kind, ident, options, yours=UNSPECIFIED if kind == NAK else LEASED)
 
 
 FROM_SERVER = (SERVER, HOST), (ROUTER, EVERYBODY), (67, 68)
 
 
-def reply(kind, ident, lease=1000, more=(), **changes):
-    return udp_frame(*FROM_SERVER, reply_of(kind, ident, lease, more), **changes)
+def reply(kind, ident, lease=1000, more=(), names=NAMES, **changes):
+    return udp_frame(*FROM_SERVER, reply_of(kind, ident, lease, more, names), **changes)
 
 
 def unsummed(kind, ident):

@@ -3,19 +3,26 @@ sent and heard before."""
 import struct
 from collections import namedtuple
 from plain_frames import (ACK, BROADCAST, DISCOVER, EVERYBODY, HOST, NAK, NOBODY, OFFER, REQUEST, UNSPECIFIED, arp_frame, arp_packet,
-                          dhcp_message, heard_of, is_unicast, number, prefix_of, udp_frame)
+                          datagram, dhcp_message, heard_of, is_unicast, number, prefix_of, udp_frame)
+from plain_names import A, Queries
 
 SECOND = 1000000
-FRAME, TICK, RESET = 1, 2, 4
+FRAME, TICK, QUERY, RESET, TYPED_QUERY = 1, 2, 3, 4, 5
 
 
 # The host
 
 Settings = namedtuple("Settings", "hardware seed mtu longest ignores", defaults=[HOST, 1, 1500, None, False])
-Event = namedtuple("Event", "kind at frame", defaults=[b""])
+Event = namedtuple("Event", "kind at frame name asks", defaults=[b"", "", A])
 Anchor = namedtuple("Anchor", "kind row offer lease", defaults=[None, None])
-Lease = namedtuple("Lease", "address prefix router renew rebind end")
+Lease = namedtuple("Lease", "address prefix router names renew rebind end")
 Message = namedtuple("Message", "row at ident")
+
+
+def settings_of(words):
+    values = dict(word.split("=") for word in words)
+    longest = int(values["lease"]) * SECOND if "lease" in values else None
+    return Settings(mtu=int(values.get("mtu", 1500)), longest=longest, ignores=values.get("naks") == "ignore")
 
 
 def words_of(seed, count):
@@ -51,7 +58,9 @@ def lease_of(heard, now, longest):
     else:
         first, second = span // 2, span * 7 // 8
     router = options[3][:4] if 3 in options else None
-    return Lease(heard.yours, prefix, router, now + first, now + second, now + span)
+    names = [options[6][at:at + 4] for at in range(0, len(options[6]), 4)] if 6 in options else []
+    names = [address for address in names if is_unicast(address)][:3]
+    return Lease(heard.yours, prefix, router, names, now + first, now + second, now + span)
 
 
 class Host:
@@ -65,20 +74,27 @@ class Host:
         self.anchor = Anchor("loss", 0)
         self.held = None
         self.stations = {}
+        self.queries = Queries()
 
     def handle(self, event):
-        """The frames that are sent in an event, each with its mark."""
-        sent = []
+        """The frames that are sent in an event, each with its mark, and what is said of queries."""
+        sent, lines = [], []
         self.words = words_of(self.words[-1], 3)
         if event.kind == RESET:
             self.anchor = Anchor("loss", self.row)
+        elif event.kind in (QUERY, TYPED_QUERY):
+            lines += self.queries.start(event.name, event.asks, self.words)
         elif event.kind == FRAME and (event.frame[:6] == self.settings.hardware or event.frame[:1] and event.frame[0] & 1):
             sent += self.hear_arp(event)
             self.hear_dhcp(event)
+            self.hear_names(event)
         sent += self.speak(event.at)
+        asked = [frame for mark, frame in sent if mark == "arp-request"]
+        sent += [question for question in self.ask_names(event.at) if question[1] not in asked]
+        lines += self.queries.ended()
         self.held = self.anchor.lease
         self.row += 1
-        return sent
+        return sent, lines
 
     def hear_arp(self, event):
         packet = arp_packet(event.frame)
@@ -103,6 +119,24 @@ class Host:
             self.anchor = Anchor("lease", self.row, self.anchor.offer, lease)
         elif heard.kind == NAK and not self.settings.ignores:
             self.anchor = Anchor("loss", self.row)
+
+    def hear_names(self, event):
+        parts = datagram(event.frame)
+        if parts is None or parts[1] == (67, 68):
+            return
+        source, ports, data = parts
+        if ports[0] == 5353 or ports[0] == 53 and self.held is not None and source in self.held.names:
+            self.queries.hear(source, ports, data)
+
+    def ask_names(self, now):
+        """The messages of queries that are due, up to the first one whose next hop is not known, and the question for that."""
+        mine, held = self.settings.hardware, self.held
+        servers, source = ([], None) if held is None else (held.names, held.address)
+        asks, unknown = self.queries.look(now, servers, source, lambda to: self.hop(self.hop_address(to), now))
+        sent = [(f"dns {query.number} {place}", udp_frame((mine, hop), (source, to), (query.port, 53), query.message()))
+                for query, place, to, hop in asks]
+        address = None if unknown is None else self.hop_address(unknown)
+        return sent + ([] if address is None else [("arp-request", arp_frame(1, source, address, (mine, BROADCAST), NOBODY))])
 
     def speak(self, now):
         """The DHCP message that is due, or the question for its next hop."""
@@ -206,7 +240,7 @@ def note_of(frame):
 
 def event_text(event):
     if event.kind != FRAME:
-        return "tick" if event.kind == TICK else "reset"
+        return {TICK: "tick", RESET: "reset"}.get(event.kind, "query")
     note = note_of(event.frame)
     note["window"] = "{}-{}".format(*note["window"])
     return " ".join(["frame", str(len(event.frame))] + [f"{key}={value}" for key, value in note.items()])
@@ -223,12 +257,13 @@ def run(settings, events):
     for row, event in enumerate(events):
         if event.kind == FRAME:
             capture += record(event.at, event.frame)
-        sent = host.handle(event)
+        sent, lines = host.handle(event)
         held = "none" if host.held is None else "{}.{}.{}.{}/{}".format(*host.held.address, host.held.prefix)
         text += f"{row} {event.at // SECOND}.{event.at % SECOND:06} {event_text(event)} lease {held}\n"
         for mark, frame in sent:
             text += f"  sent {mark} {len(frame)}\n"
             capture += record(event.at, frame)
+        text += "".join(f"  {line}\n" for line in lines)
     return text + "done\n", capture
 
 
@@ -238,4 +273,9 @@ def script_of(events):
         script += struct.pack(">BQ", event.kind, event.at)
         if event.kind == FRAME:
             script += struct.pack(">H", len(event.frame)) + event.frame
+        if event.kind == TYPED_QUERY:
+            script += struct.pack(">H", event.asks)
+        if event.kind in (QUERY, TYPED_QUERY):
+            name = event.name.encode()
+            script += struct.pack(">B", len(name)) + name
     return script
