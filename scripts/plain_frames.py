@@ -101,8 +101,8 @@ def arp_packet(frame):
     return operation, hardware, sender, packet[24:28]
 
 
-def datagram(frame):
-    """Source address, ports and data of a frame with a whole UDP datagram whose checksums are right."""
+def datagram(frame, counts=is_unicast):
+    """Source address, ports and data of a frame with a whole UDP datagram from a source that counts, whose checksums are right."""
     packet = frame[14:]
     if frame[12:14] != b"\x08\x00" or len(packet) < 20 or packet[0] >> 4 != 4:
         return None
@@ -110,7 +110,7 @@ def datagram(frame):
     if not 20 <= head <= total <= len(packet) or struct.unpack(">H", packet[6:8])[0] & 0x3FFF or packet[9] != 17:
         return None
     source, payload = packet[12:16], packet[head:total]
-    if add_up(packet[:head]) % 0xFFFF or not is_unicast(source) or len(payload) < 8:
+    if add_up(packet[:head]) % 0xFFFF or not counts(source) or len(payload) < 8:
         return None
     ports, (size, check) = struct.unpack(">HH", payload[:4]), struct.unpack(">HH", payload[4:8])
     if not 8 <= size <= len(payload):

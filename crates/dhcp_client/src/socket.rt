@@ -241,6 +241,13 @@ impl<'a> Socket<'a> {
         }
     }
 
+    /// The id of the message sent last; 1 before any.
+    pub fn transaction_id(&self) -> u32
+        ensures { result ≡ self.now.transaction_id }
+    {
+        self.transaction_id
+    }
+
     /// Takes in what arrived from a server's port and address; bytes that are no message of a server to this
     /// client, or none that counts now, change nothing.
     pub fn process(&mut self, cx: &Context, src: Ipv4Address, payload: &[u8])

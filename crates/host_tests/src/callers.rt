@@ -1,7 +1,8 @@
 //! The callers of `uses` on bytes from outside.
 use dhcp_client::Socket;
 use net_wire::{Context, EthernetAddress, Instant, Ipv4Address, Ipv4Cidr};
-use uses::{dissection, headers, leases, runs, sums};
+use script_reader::EventReader;
+use uses::{dissection, headers, leases, scripts, sums};
 use wire_base::number::append;
 
 /// The IPv4 header of a datagram from 192.168.0.1 to 192.168.0.199.
@@ -56,8 +57,11 @@ fn a_script_begins_with_its_first_event(rt: HostRuntime) {
     let Ok(script) = Vec::from_slice(alloc, b"\x02\x00\x00\x00\x00\x00\x98\x96\x80") else {
         return;
     };
-    let time = runs::first_time(alloc, script);
-    let none = runs::first_time(alloc, Vec::new(alloc));
+    let (Ok(mut reader), Ok(mut other)) = (EventReader::new(alloc), EventReader::new(alloc)) else {
+        return;
+    };
+    let time = scripts::first_time(&mut reader, script);
+    let none = scripts::first_time(&mut other, Vec::new(alloc));
     assert!(rt; time == Ok(Some(Instant::from_micros(10_000_000))) && none == Ok(None));
 }
 

@@ -11,6 +11,8 @@ mod callers;
 #[cfg(test)]
 mod calls;
 #[cfg(test)]
+mod disturbed;
+#[cfg(test)]
 mod faults;
 #[cfg(test)]
 mod files;
@@ -18,6 +20,8 @@ mod files;
 mod frames;
 #[cfg(test)]
 mod fuzzed;
+#[cfg(test)]
+mod links;
 #[cfg(test)]
 mod lives;
 #[cfg(test)]

@@ -262,7 +262,7 @@ pub(crate) fn life_of(alloc: Global, rows: &[Row]) -> Result<(Vec<u8>, Vec<u8>),
 }
 
 /// The checksum of RFC 1950 (Adler-32).
-fn adler(bytes: &[u8]) -> u32 {
+pub(crate) fn adler(bytes: &[u8]) -> u32 {
     let mut low: u32 = 1;
     let mut high: u32 = 0;
     for byte in bytes {

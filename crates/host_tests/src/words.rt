@@ -5,7 +5,7 @@ use std::alloc::{AllocError, Global};
 use std::test::Fail;
 
 /// Words that name no command.
-const COMMANDS: [&[&str]; 18] = [
+const COMMANDS: [&[&str]; 25] = [
     &[],
     &["run"],
     &["run", "020202020202", "1"],
@@ -24,6 +24,13 @@ const COMMANDS: [&[&str]; 18] = [
     &["make", "1", "1", "mtu=576"],
     &["make", "020202020202", "1", "10"],
     &["Make", "1", "1"],
+    &["help", "run"],
+    &["--help", "--help"],
+    &["-help"],
+    &["disturb", "020202020202", "1", "10", "7", "100"],
+    &["disturb", "020202020202", "1", "10", "7", "100", "0", "mtu=576"],
+    &["disturb", "020202020202", "1", "10", "7", "101", "0"],
+    &["disturb", "020202020202", "1", "10", "7", "0", "0000"],
 ];
 
 /// The words of a run of at most ten events.
@@ -54,6 +61,8 @@ const SETTINGS: [&[&str]; 19] = [
 
 const USAGE: &[u8] = b"usage: run HW SEED MAX [mtu=N] [lease=N] [naks=ignore|obey]
        make SEED COUNT
+       disturb HW SEED MAX FSEED DROP CORRUPT
+       help
 ";
 
 /// Whether the words have status 1, with the usage text, and leave nothing else.
@@ -113,7 +122,7 @@ fn is_taken(alloc: Global, words: &[&str], (settings, want): Taken) -> Result<bo
             let said = run.settings;
             (said.ip_mtu, said.max_lease_secs, said.ignore_naks) == want
         }
-        Some(Command::Make(_)) | None => false,
+        _ => false,
     };
     let ran = run_words(alloc, words, settings, b"")?;
     let is_done = ran.status == 0 && ran.printed.as_slice() == b"done\n".as_slice();
@@ -145,6 +154,22 @@ fn servers_are_told_the_mtu(rt: HostRuntime) -> Result<(), Fail> {
     for (settings, told) in TOLD {
         let ran = run_words(rt.alloc(), &RUN, settings, b"\x02\0\0\0\0\0\0\0\0")?;
         assert!(rt; ran.status == 0 && ran.captured.as_slice().get(at..at + 2) == Some(told));
+    }
+    Ok(())
+}
+
+/// Whether the word alone has the usage text printed, and more behind it, and leaves nothing else.
+fn is_help(alloc: Global, word: &str) -> Result<bool, AllocError> {
+    let ran = run_words(alloc, &[word], &[], b"\x02")?;
+    let has_usage = ran.printed.as_slice().starts_with(USAGE);
+    let has_rows = ran.report.rows().len() > 0;
+    Ok(ran.status == 0 && has_usage && ran.captured.is_empty() && !has_rows)
+}
+
+#[test]
+fn help_is_printed_and_nothing_is_read(rt: HostRuntime) -> Result<(), Fail> {
+    for word in ["help", "--help", "-h"] {
+        assert!(rt; is_help(rt.alloc(), word)?, "{word}");
     }
     Ok(())
 }

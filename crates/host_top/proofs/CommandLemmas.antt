@@ -1,5 +1,5 @@
 -- Words that name a command.
-use Rattle.std.proofs.Common.{◌≡◌, ℕ, ◌-◌, ◌*◌, ◌≤◌, false, List, [], ◌∷◌, length, length-drop, take, drop, map, codes, Option, None, Some, IfSome, IfNone, option_map, unwrap_or, refl, sym, ◌∙◌, ap, ap₂, subst, arith}
+use Rattle.std.proofs.Common.{◌≡◌, ℕ, ◌⊎◌, inl, inr, ◌-◌, ◌*◌, ◌≤◌, false, List, [], ◌∷◌, length, length-drop, take, drop, map, codes, Option, None, Some, IfSome, IfNone, option_map, unwrap_or, refl, sym, ◌∙◌, ap, ap₂, subst, arith}
 use Rattle.std.proofs.lemmas.List.{take_all}
 use Rattle.std.proofs.lemmas.Option.{none-some}
 use Rattle.host_model.specs.Settings.{Settings}
@@ -8,12 +8,16 @@ use Rattle.net_host.specs.Config.{refusal_of}
 use Rattle.net_host.proofs.SettingsLemmas.{defaults_accepted}
 use Rattle.net_wire.specs.declared.address.EthernetAddress.{EthernetAddress}
 use Rattle.host_top.specs.declared.command.Command.{Command}
-use Rattle.host_top.specs.declared.command.Command.TheVariants.{Run, Make}
+use Rattle.host_top.specs.declared.command.Command.TheVariants.{Run, Make, Help, Disturb}
 use Rattle.host_top.specs.declared.command.MakeCommand.{MakeCommand}
 use Rattle.host_top.specs.declared.command.RunCommand.{RunCommand}
 use Rattle.host_top.specs.declared.setting.RunSettings.{RunSettings}
-use Rattle.host_top.specs.Command.{WritesRun, WritesMake, NamesRun, NamesMake, Names, IsTaken, NamesOne, run_of_make, IsRunnable, IsCommand, settings_named}
-use Rattle.host_top.specs.HostMain.{Ask}
+use Rattle.host_top.specs.declared.disturb_command.DisturbCommand.{DisturbCommand}
+use Rattle.host_top.specs.Disturb.{WritesDisturb}
+use Rattle.host_top.specs.RunWords.{WritesRun, NamesRun, IsRunnable, settings_named}
+use Rattle.host_top.specs.MakeWords.{WritesMake, NamesMake, run_of_make}
+use Rattle.host_top.specs.Command.{NameHelp, IsHelpWord, Names, IsTaken, NamesOne, IsCommand}
+use Rattle.host_top.specs.HostMain.{Ask, AskForNoWork}
 use Rattle.host_top.specs.Setting.{Sets}
 use Rattle.host_top.proofs.OneSettingLemmas.{sets_one}
 use Rattle.host_top.proofs.SettingWordLemmas.{mtu_in_range}
@@ -40,22 +44,64 @@ unset f words none run writes =
     let are = behind_three f words writes.hardware_word writes.seed_word writes.max_word writes.setting_words writes.are in
     none run.settings (subst (λ l. Sets (map f l) run.settings) (behind words 3) (subst (λ l. Sets l run.settings) are writes.settings))
 
--- where the words behind the first one write nothing
-pub unwritten : {X : Type 0} (f : X → List ℕ) (words : List X)
-    → ((run : RunCommand) → WritesRun (map f (take (length words - 1) (drop 1 words))) run → ⊥)
-    → ((behind : List (List ℕ)) → map f words ≡ codes "make" ∷ behind → ⊥) → IsTaken (map f words) → ⊥
-unwritten f words none other (Run run, named) =
-    let are = behind_one f words (codes "run") named.behind named.are in
-    none run (subst (λ l. WritesRun (map f l) run) (behind words 1) (subst (λ l. WritesRun l run) are named.write))
-unwritten f words none other (Make make, named) = other named.behind named.are
+-- a word that asks how the program is used is none of these
+help_key : (key : List ℕ) → (key ≡ codes "help" → ⊥) → (key ≡ codes "--help" → ⊥) → (key ≡ codes "-h" → ⊥) → IsHelpWord key → ⊥
+help_key key long dashed short (inl is) = long is
+help_key key long dashed short (inr (inl is)) = dashed is
+help_key key long dashed short (inr (inr is)) = short is
 
-pub unmade : {X : Type 0} (f : X → List ℕ) (words : List X)
-    → ((make : MakeCommand) → WritesMake (map f (take (length words - 1) (drop 1 words))) make → ⊥)
-    → ((behind : List (List ℕ)) → map f words ≡ codes "run" ∷ behind → ⊥) → IsTaken (map f words) → ⊥
-unmade f words none other (Run run, named) = other named.behind named.are
-unmade f words none other (Make make, named) =
-    let are = behind_one f words (codes "make") named.behind named.are in
-    none make (subst (λ l. WritesMake (map f l) make) (behind words 1) (subst (λ l. WritesMake l make) are named.write))
+other_than : (key word : List ℕ) → (IsHelpWord key → ⊥) → IsHelpWord word → word ≡ key → ⊥
+other_than key word other asks same = other (subst IsHelpWord same asks)
+
+run_is_no_help : IsHelpWord (codes "run") → ⊥
+run_is_no_help = help_key (codes "run") (λ is. cc) (λ is. cc) (λ is. cc)
+
+make_is_no_help : IsHelpWord (codes "make") → ⊥
+make_is_no_help = help_key (codes "make") (λ is. cc) (λ is. cc) (λ is. cc)
+
+disturb_is_no_help : IsHelpWord (codes "disturb") → ⊥
+disturb_is_no_help = help_key (codes "disturb") (λ is. cc) (λ is. cc) (λ is. cc)
+
+-- the first of the words is the name of a command
+abbrev IsFirst : {X : Type 0} → (X → List ℕ) → List X → List ℕ → Type 0
+IsFirst {X} f words key = (word : List ℕ) (behind : List (List ℕ)) → map f words ≡ word ∷ behind → word ≡ key
+
+-- the words behind the first one
+abbrev behind_first : {X : Type 0} → (X → List ℕ) → List X → List (List ℕ)
+behind_first {X} f words = map f (take (length words - 1) (drop 1 words))
+
+moved_behind : {X : Type 0} (f : X → List ℕ) (words : List X) (key : List ℕ) (rest : List (List ℕ)) → map f words ≡ key ∷ rest
+    → rest ≡ behind_first f words
+moved_behind f words key rest are = behind_one f words key rest are ∙ ap (map f) (behind words 1)
+
+-- where the words behind the first one write nothing
+pub unwritten : {X : Type 0} (f : X → List ℕ) (words : List X) → ((run : RunCommand) → WritesRun (behind_first f words) run → ⊥)
+    → IsFirst f words (codes "run") → IsTaken (map f words) → ⊥
+unwritten f words none first (Run run, named) =
+    none run (subst (λ l. WritesRun l run) (moved_behind f words (codes "run") named.behind named.are) named.write)
+unwritten f words none first (Make make, named) = absurd (cc (first (codes "make") named.behind named.are))
+unwritten f words none first (Disturb disturb, named) = absurd (cc (first (codes "disturb") named.behind named.are))
+unwritten f words none first (Help, named) =
+    other_than (codes "run") named.word run_is_no_help named.asks (first named.word [] named.are)
+
+pub unmade : {X : Type 0} (f : X → List ℕ) (words : List X) → ((make : MakeCommand) → WritesMake (behind_first f words) make → ⊥)
+    → IsFirst f words (codes "make") → IsTaken (map f words) → ⊥
+unmade f words none first (Run run, named) = absurd (cc (first (codes "run") named.behind named.are))
+unmade f words none first (Make make, named) =
+    none make (subst (λ l. WritesMake l make) (moved_behind f words (codes "make") named.behind named.are) named.write)
+unmade f words none first (Disturb disturb, named) = absurd (cc (first (codes "disturb") named.behind named.are))
+unmade f words none first (Help, named) =
+    other_than (codes "make") named.word make_is_no_help named.asks (first named.word [] named.are)
+
+pub undisturbed : {X : Type 0} (f : X → List ℕ) (words : List X)
+    → ((disturb : DisturbCommand) → WritesDisturb (behind_first f words) disturb → ⊥)
+    → IsFirst f words (codes "disturb") → IsTaken (map f words) → ⊥
+undisturbed f words none first (Run run, named) = absurd (cc (first (codes "run") named.behind named.are))
+undisturbed f words none first (Make make, named) = absurd (cc (first (codes "make") named.behind named.are))
+undisturbed f words none first (Disturb disturb, named) =
+    none disturb (subst (λ l. WritesDisturb l disturb) (moved_behind f words (codes "disturb") named.behind named.are) named.write)
+undisturbed f words none first (Help, named) =
+    other_than (codes "disturb") named.word disturb_is_no_help named.asks (first named.word [] named.are)
 
 abbrev address_made : List ℕ → EthernetAddress
 address_made bytes = record { 0 = bytes }
@@ -87,6 +133,31 @@ writes_one_make words one other first second =
     let count : one.count ≡ other.count = cc (first.are, second.are, first.count.writes.value, second.count.writes.value) in
     ap₂ make_made seed count
 
+help_against : (words : List (List ℕ)) (key : List ℕ) (rest : List (List ℕ)) → (IsHelpWord key → ⊥) → NameHelp words
+    → words ≡ key ∷ rest → ⊥
+help_against words key rest other help are = other_than key help.word other help.asks (cc (help.are, are))
+
+disturb_made : RunCommand → ℕ → ℕ → ℕ → DisturbCommand
+disturb_made run seed drop corrupt = record { run = run; fault_seed = seed; drop_chance = drop; corrupt_chance = corrupt }
+
+same_disturb : (a w : RunCommand) (b x c y d z : ℕ) → a ≡ w → b ≡ x → c ≡ y → d ≡ z → disturb_made a b c d ≡ disturb_made w x y z
+same_disturb a w b x c y d z first second third fourth = rw (first, second, third, fourth) refl
+
+writes_one_disturb : (words : List (List ℕ)) (one other : DisturbCommand) → WritesDisturb words one → WritesDisturb words other → one ≡ other
+unfolding disturb_made
+writes_one_disturb words one other first second =
+    let hardware : one.run.hardware.0 ≡ other.run.hardware.0 = cc (first.are, second.are, first.hardware.bytes, second.hardware.bytes) in
+    let seed : one.run.seed ≡ other.run.seed = cc (first.are, second.are, first.seed.writes.value, second.seed.writes.value) in
+    let count : one.run.max_events ≡ other.run.max_events = cc (first.are, second.are, first.max.writes.value, second.max.writes.value) in
+    let settings : one.run.settings ≡ other.run.settings = first.plain ∙ sym second.plain in
+    let fault : one.fault_seed ≡ other.fault_seed = cc (first.are, second.are, first.fault_seed.writes.value, second.fault_seed.writes.value) in
+    let drop : one.drop_chance ≡ other.drop_chance = cc (first.are, second.are, first.drop.writes.value, second.drop.writes.value) in
+    let corrupt : one.corrupt_chance ≡ other.corrupt_chance = cc (first.are, second.are, first.corrupt.writes.value, second.corrupt.writes.value) in
+    let run : one.run ≡ other.run = same_fields one.run.hardware.0 other.run.hardware.0 one.run.seed other.run.seed
+    one.run.max_events other.run.max_events one.run.settings other.run.settings hardware seed count settings in
+    same_disturb one.run other.run one.fault_seed other.fault_seed one.drop_chance other.drop_chance one.corrupt_chance other.corrupt_chance
+    run fault drop corrupt
+
 -- words name one command at most
 pub names_one : NamesOne
 names_one words (Run one) (Make other) first second = absurd (cc (first.are, second.are))
@@ -97,6 +168,28 @@ names_one words (Make one) (Make other) first second =
 names_one words (Run one) (Run other) first second =
     let behind_run : second.behind ≡ first.behind = cc (first.are, second.are) in
     ap Run (writes_one first.behind one other first.write (subst (λ l. WritesRun l other) behind_run second.write))
+names_one words (Disturb one) (Disturb other) first second =
+    let behind_disturb : second.behind ≡ first.behind = cc (first.are, second.are) in
+    ap Disturb (writes_one_disturb first.behind one other first.write (subst (λ l. WritesDisturb l other) behind_disturb second.write))
+names_one words (Run one) (Disturb other) first second = absurd (cc (first.are, second.are))
+names_one words (Make one) (Disturb other) first second = absurd (cc (first.are, second.are))
+names_one words (Disturb one) (Run other) first second = absurd (cc (first.are, second.are))
+names_one words (Disturb one) (Make other) first second = absurd (cc (first.are, second.are))
+names_one words Help Help first second = refl
+names_one words (Run one) Help first second = absurd (help_against words (codes "run") first.behind run_is_no_help second first.are)
+names_one words (Make one) Help first second = absurd (help_against words (codes "make") first.behind make_is_no_help second first.are)
+names_one words (Disturb one) Help first second =
+    absurd (help_against words (codes "disturb") first.behind disturb_is_no_help second first.are)
+names_one words Help (Run other) first second = absurd (help_against words (codes "run") second.behind run_is_no_help first second.are)
+names_one words Help (Make other) first second = absurd (help_against words (codes "make") second.behind make_is_no_help first second.are)
+names_one words Help (Disturb other) first second =
+    absurd (help_against words (codes "disturb") second.behind disturb_is_no_help first second.are)
+
+-- words that name no command, or ask how the program is used, ask for no work
+pub no_work : (words : List (List ℕ)) (asked : Option Command) → Ask words asked → AskForNoWork words → (asked ≡ None) ⊎ (asked ≡ Some Help)
+no_work words None asks none = inl refl
+no_work words (Some command) asks (inl none) = absurd (none (command, asks))
+no_work words (Some command) asks (inr help) = inr (ap Some (names_one words command Help asks help))
 
 -- a run that words name relies on nothing more
 pub runnable : {words : List (List ℕ)} {run : RunCommand} → NamesRun words run → IsRunnable run
@@ -114,6 +207,17 @@ makeable {words} {make} named = record { individual = refl; mtu = tt; some = nam
 named_command : (words : List (List ℕ)) (command : Command) → Names words command → IsCommand command
 named_command words (Run run) named = runnable named
 named_command words (Make make) named = makeable named
+named_command words Help named = tt
+named_command words (Disturb disturb) named = record {
+  run = record {
+    individual = named.write.hardware.individual;
+    mtu = subst (λ (s : RunSettings). IfSome s.ip_mtu (λ bytes. (576 ≤ bytes) × (bytes ≤ 1500))) (sym named.write.plain) tt;
+    some = named.write.max.some;
+    limit = named.write.max.limit;
+  };
+  drop = named.write.drop.limit;
+  corrupt = named.write.corrupt.limit;
+}
 
 pub asked_command : (words : List (List ℕ)) (asked : Option Command) → IfSome asked (Names words) → IfSome asked IsCommand
 asked_command words None found = tt

@@ -10,50 +10,53 @@ use Rattle.net_host.specs.declared.report.Row.{Row}
 use Rattle.net_host.specs.Outside.{Outside}
 use Rattle.net_host.specs.Run.{Task, HasFewWords}
 use Rattle.host_top.specs.declared.command.Command.{Command}
-use Rattle.host_top.specs.declared.command.Command.TheVariants.{Run, Make}
+use Rattle.host_top.specs.declared.command.Command.TheVariants.{Run, Make, Help, Disturb}
 use Rattle.host_top.specs.declared.ending.Ending.{Ending}
 use Rattle.host_top.specs.declared.ending.Ending.TheVariants.{Done, Refused, Script, Limit, Read, Capture, NoMemory}
 use Rattle.host_top.specs.Command.{IsTaken}
 use Rattle.host_top.specs.Ending.{status_of, status_after}
-use Rattle.host_top.specs.HostMain.{ForNamed, ComesExactly, IsStatusOf, IsComplete, EndedAs, Ask, HasEnded}
+use Rattle.host_top.specs.HostMain.{ForNamed, IsComplete, EndedAs, Ask, HasEnded}
+use Rattle.host_top.specs.Status.{ComesExactly, IsStatusOf}
 
 -- how what the words ask for ended, what the output answered, and the status
 pub record Answered (words : List (List ℕ)) (asked : Option Command) (before after : Outside) (report : List Row) (ending : Ending)
-    (answer : Result (Unit {0}) SinkError) (result : ℕ) : Type 0 where
+    (text : List ℕ) (answer : Result (Unit {0}) SinkError) (result : ℕ) : Type 0 where
   pub asks : Ask words asked
-  pub ended : HasEnded asked before after report ending
+  pub ended : HasEnded asked before after report ending text
   pub status : result ≡ status_after ending answer
 
 -- a command has not the status of refused words
-not_refused : (command : Command) (before after : Outside) (report : List Row) (ending : Ending) → EndedAs command before after report ending
-    → status_of ending ≡ 1 → ⊥
-not_refused command before after report Done ended is = omega arith
-not_refused (Run run) before after report Refused ended is = ended
-not_refused (Make make) before after report Refused ended is = ended.0
-not_refused command before after report (Script offset) ended is = omega arith
-not_refused command before after report Limit ended is = omega arith
-not_refused command before after report Read ended is = omega arith
-not_refused command before after report Capture ended is = omega arith
-not_refused command before after report NoMemory ended is = omega arith
+not_refused : (command : Command) (before after : Outside) (report : List Row) (ending : Ending) (text : List ℕ)
+    → EndedAs command before after report ending text → status_of ending ≡ 1 → ⊥
+not_refused command before after report Done text ended is = omega arith
+not_refused (Run run) before after report Refused text ended is = ended.ran
+not_refused (Make make) before after report Refused text ended is = ended.may
+not_refused Help before after report Refused text ended is = omega (arith, ap status_of ended.done)
+not_refused (Disturb disturb) before after report Refused text ended is = ended.ran
+not_refused command before after report (Script offset) text ended is = omega arith
+not_refused command before after report Limit text ended is = omega arith
+not_refused command before after report Read text ended is = omega arith
+not_refused command before after report Capture text ended is = omega arith
+not_refused command before after report NoMemory text ended is = omega arith
 
 -- refused words have their status, and no others have it
-refused_at : (words : List (List ℕ)) (asked : Option Command) (before after : Outside) (report : List Row) (ending : Ending)
-    (answer : Result (Unit {0}) SinkError) (result : ℕ) → Ask words asked → HasEnded asked before after report ending
+refused_at : (words : List (List ℕ)) (asked : Option Command) (before after : Outside) (report : List Row) (ending : Ending) (text : List ℕ)
+    (answer : Result (Unit {0}) SinkError) (result : ℕ) → Ask words asked → HasEnded asked before after report ending text
     → result ≡ status_after ending answer → ComesExactly 1 (IsTaken words → ⊥) result
-refused_at words asked before after report ending (Err sink.Fault) result asks ended is =
+refused_at words asked before after report ending text (Err sink.Fault) result asks ended is =
     record { only = λ one. absurd (omega arith); always = λ _. inr (inl is) }
-refused_at words asked before after report ending (Err sink.NoMemory) result asks ended is =
+refused_at words asked before after report ending text (Err sink.NoMemory) result asks ended is =
     record { only = λ one. absurd (omega arith); always = λ _. inr (inr is) }
-refused_at words None before after report ending (Ok _) result asks ended is =
-    record { only = λ _. asks; always = λ _. inl (is ∙ ap status_of ended) }
-refused_at words (Some command) before after report ending (Ok _) result asks ended is =
-    record { only = λ one. absurd (not_refused command before after report ending ended (sym is ∙ one)); always = λ none. absurd (none (command, asks)) }
+refused_at words None before after report ending text (Ok _) result asks ended is =
+    record { only = λ _. asks; always = λ _. inl (is ∙ ap status_of ended.refused) }
+refused_at words (Some command) before after report ending text (Ok _) result asks ended is =
+    record { only = λ one. absurd (not_refused command before after report ending text ended (sym is ∙ one)); always = λ none. absurd (none (command, asks)) }
 
 pub refused_exactly : {words : List (List ℕ)} {asked : Option Command} {before after : Outside} {report : List Row} {ending : Ending}
-    {answer : Result (Unit {0}) SinkError} {result : ℕ} → Answered words asked before after report ending answer result
+    {text : List ℕ} {answer : Result (Unit {0}) SinkError} {result : ℕ} → Answered words asked before after report ending text answer result
     → ComesExactly 1 (IsTaken words → ⊥) result
-refused_exactly {words} {asked} {before} {after} {report} {ending} {answer} {result} how =
-    refused_at words asked before after report ending answer result how.asks how.ended how.status
+refused_exactly {words} {asked} {before} {after} {report} {ending} {text} {answer} {result} how =
+    refused_at words asked before after report ending text answer result how.asks how.ended how.status
 
 -- the status that the class of a script asks for
 no_memory : (left : Option (List ℕ)) (max result : ℕ) → result ≡ 7 → IfSome left (IsStatusOf max result)
@@ -87,49 +90,64 @@ long_script (Some bytes) max result over is = record {
   over = λ _. inl is;
 }
 
-complete_of : (command : Command) (before after : Outside) (report : List Row) (ending : Ending) (result : ℕ)
-    → EndedAs command before after report ending → result ≡ status_of ending
+complete_of : (command : Command) (before after : Outside) (report : List Row) (ending : Ending) (text : List ℕ) (result : ℕ)
+    → EndedAs command before after report ending text → result ≡ status_of ending
     → (IsRisen before.read_faults after.read_faults → ⊥) → (IsRisen before.capture_faults after.capture_faults → ⊥)
     → IsComplete command before result
-complete_of (Run run) before after report Done result ended is read capture =
-    valid_script before.left run.max_events ended.0.events result ended.0.script is
-complete_of (Run run) before after report Refused result ended is read capture = absurd ended
-complete_of (Run run) before after report (Script offset) result ended is read capture =
-    broken_script before.left run.max_events offset result ended.1.0 is
-complete_of (Run run) before after report Limit result ended is read capture = long_script before.left run.max_events result ended.1.0 is
-complete_of (Run run) before after report Read result ended is read capture = absurd (read ended.1.0)
-complete_of (Run run) before after report Capture result ended is read capture = absurd (capture ended.1.0)
-complete_of (Run run) before after report NoMemory result ended is read capture = no_memory before.left run.max_events result is
-complete_of (Make make) before after report Done result ended is read capture = inl is
-complete_of (Make make) before after report Refused result ended is read capture = absurd ended.0
-complete_of (Make make) before after report (Script offset) result ended is read capture = absurd ended.0
-complete_of (Make make) before after report Limit result ended is read capture = absurd ended.0
-complete_of (Make make) before after report Read result ended is read capture = absurd ended.0
-complete_of (Make make) before after report Capture result ended is read capture = absurd (capture ended.1.left.1.0)
-complete_of (Make make) before after report NoMemory result ended is read capture = inr is
+complete_of (Run run) before after report Done text result ended is read capture =
+    valid_script before.left run.max_events ended.ran.0.events result ended.ran.0.script is
+complete_of (Run run) before after report Refused text result ended is read capture = absurd ended.ran
+complete_of (Run run) before after report (Script offset) text result ended is read capture =
+    broken_script before.left run.max_events offset result ended.ran.1.0 is
+complete_of (Run run) before after report Limit text result ended is read capture = long_script before.left run.max_events result ended.ran.1.0 is
+complete_of (Run run) before after report Read text result ended is read capture = absurd (read ended.ran.1.0)
+complete_of (Run run) before after report Capture text result ended is read capture = absurd (capture ended.ran.1.0)
+complete_of (Run run) before after report NoMemory text result ended is read capture = no_memory before.left run.max_events result is
+complete_of (Make make) before after report Done text result ended is read capture = inl is
+complete_of (Make make) before after report Refused text result ended is read capture = absurd ended.may
+complete_of (Make make) before after report (Script offset) text result ended is read capture = absurd ended.may
+complete_of (Make make) before after report Limit text result ended is read capture = absurd ended.may
+complete_of (Make make) before after report Read text result ended is read capture = absurd ended.may
+complete_of (Make make) before after report Capture text result ended is read capture = absurd (capture ended.left.left.1.0)
+complete_of (Make make) before after report NoMemory text result ended is read capture = inr is
+complete_of Help before after report ending text result ended is read capture = inl (is ∙ ap status_of ended.done)
+complete_of (Disturb disturb) before after report Done text result ended is read capture =
+    valid_script before.left disturb.run.max_events ended.ran.0.events result ended.ran.0.script is
+complete_of (Disturb disturb) before after report Refused text result ended is read capture = absurd ended.ran
+complete_of (Disturb disturb) before after report (Script offset) text result ended is read capture =
+    broken_script before.left disturb.run.max_events offset result ended.ran.1.0 is
+complete_of (Disturb disturb) before after report Limit text result ended is read capture =
+    long_script before.left disturb.run.max_events result ended.ran.1.0 is
+complete_of (Disturb disturb) before after report Read text result ended is read capture = absurd (read ended.ran.1.0)
+complete_of (Disturb disturb) before after report Capture text result ended is read capture = absurd (capture ended.ran.1.0)
+complete_of (Disturb disturb) before after report NoMemory text result ended is read capture =
+    no_memory before.left disturb.run.max_events result is
 
 complete_at_7 : (command : Command) (before : Outside) (result : ℕ) → result ≡ 7 → IsComplete command before result
 complete_at_7 (Run run) before result is = no_memory before.left run.max_events result is
 complete_at_7 (Make make) before result is = inr is
+complete_at_7 Help before result is = inr is
+complete_at_7 (Disturb disturb) before result is = no_memory before.left disturb.run.max_events result is
 
-complete_at : (words : List (List ℕ)) (asked : Option Command) (before after : Outside) (report : List Row) (ending : Ending)
-    (answer : Result (Unit {0}) SinkError) (result : ℕ) → Ask words asked → HasEnded asked before after report ending
+complete_at : (words : List (List ℕ)) (asked : Option Command) (before after : Outside) (report : List Row) (ending : Ending) (text : List ℕ)
+    (answer : Result (Unit {0}) SinkError) (result : ℕ) → Ask words asked → HasEnded asked before after report ending text
     → result ≡ status_after ending answer
     → IsTaken words → (IsRisen before.read_faults after.read_faults → ⊥) → (IsRisen before.capture_faults after.capture_faults → ⊥)
     → (answer ≡ Err sink.Fault → ⊥) → ForNamed words (λ command. IsComplete command before result)
-complete_at words None before after report ending answer result asks ended is taken read capture output = absurd (asks taken)
-complete_at words (Some command) before after report ending (Err sink.Fault) result asks ended is taken read capture output = absurd (output refl)
-complete_at words (Some command) before after report ending (Err sink.NoMemory) result asks ended is taken read capture output =
+complete_at words None before after report ending text answer result asks ended is taken read capture output = absurd (asks taken)
+complete_at words (Some command) before after report ending text (Err sink.Fault) result asks ended is taken read capture output = absurd (output refl)
+complete_at words (Some command) before after report ending text (Err sink.NoMemory) result asks ended is taken read capture output =
     (command, asks, complete_at_7 command before result is)
-complete_at words (Some command) before after report ending (Ok _) result asks ended is taken read capture output =
-    (command, asks, complete_of command before after report ending result ended is read capture)
+complete_at words (Some command) before after report ending text (Ok _) result asks ended is taken read capture output =
+    (command, asks, complete_of command before after report ending text result ended is read capture)
 
 pub complete_named : {words : List (List ℕ)} {asked : Option Command} {before after : Outside} {report : List Row} {ending : Ending}
-    {answer : Result (Unit {0}) SinkError} {result : ℕ} → Answered words asked before after report ending answer result → IsTaken words
+    {text : List ℕ} {answer : Result (Unit {0}) SinkError} {result : ℕ} → Answered words asked before after report ending text answer result
+    → IsTaken words
     → (IsRisen before.read_faults after.read_faults → ⊥) → (IsRisen before.capture_faults after.capture_faults → ⊥)
     → (answer ≡ Err sink.Fault → ⊥) → ForNamed words (λ command. IsComplete command before result)
-complete_named {words} {asked} {before} {after} {report} {ending} {answer} {result} how =
-    complete_at words asked before after report ending answer result how.asks how.ended how.status
+complete_named {words} {asked} {before} {after} {report} {ending} {text} {answer} {result} how =
+    complete_at words asked before after report ending text answer result how.asks how.ended how.status
 
 -- three words for each event are enough
 pub never_short : (task : Task) (before : Outside) → length task.words ≡ 3 * task.max → HasFewWords task before → ⊥

@@ -6,14 +6,13 @@ use Rattle.made_script.proofs.SomeLemmas.{makes_some}
 use Rattle.net_host.specs.declared.report.Row.{Row}
 use Rattle.net_host.specs.Outside.{Outside}
 use Rattle.net_host.proofs.RefusedLemmas.{nothing_run}
-use Rattle.host_top.specs.declared.command.Command.TheVariants.{Make}
 use Rattle.host_top.specs.declared.command.MakeCommand.{MakeCommand}
 use Rattle.host_top.specs.declared.ending.Ending.{Ending}
 use Rattle.host_top.specs.declared.ending.Ending.TheVariants.{Done, Refused, Script, Limit, Read, Capture, NoMemory}
-use Rattle.host_top.specs.Command.{run_of_make}
+use Rattle.host_top.specs.MakeWords.{run_of_make}
 use Rattle.host_top.specs.Generator.{event_words}
-use Rattle.host_top.specs.HostMain.{task_named, RanTo, EndedAs}
-use Rattle.host_top.specs.Making.{IsUnread, IsLeftByMade, IsEndingOfMade, fed_with}
+use Rattle.host_top.specs.Ran.{task_named, RanTo}
+use Rattle.host_top.specs.Making.{IsUnread, IsLeftByMade, IsEndingOfMade, MadeTo, fed_with}
 
 -- a made script ends no run, nor does a source in memory
 ends : (make : MakeCommand) (before after : Outside) (report : List Row) (ending : Ending) (bytes : List ℕ) (rest : Option (List ℕ))
@@ -30,13 +29,13 @@ ends make before after report NoMemory bytes rest made ran = tt
 pub made_ran : (make : MakeCommand) (before after : Outside) (report : List Row) (ending : Ending) (bytes : List ℕ) (rest : Option (List ℕ))
     → IsMadeScript (event_words (run_of_make make)) make.count bytes → IsUnread before after
     → RanTo (run_of_make make) (fed_with (Some bytes) before) (fed_with rest after) report ending
-    → EndedAs (Make make) before after report ending
+    → MadeTo make before after report ending
 made_ran make before after report ending bytes rest made unread ran =
     (ends make before after report ending bytes rest made ran, record { bytes = bytes; rest = rest; made = made; unread = unread; left = ran })
 
 -- want of memory before anything
 pub nothing_made : (make : MakeCommand) (before : Outside) (report : List Row) → make.count ≤ 10000 → report ≡ []
-    → EndedAs (Make make) before before report NoMemory
+    → MadeTo make before before report NoMemory
 nothing_made make before report few empty =
     let some = makes_some (event_words (run_of_make make)) make.count (omega (arith, few)) in
     let fed = fed_with (Some some.0) before in (

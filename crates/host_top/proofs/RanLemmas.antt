@@ -6,9 +6,9 @@ use Rattle.net_host.specs.declared.run_script.RunError.{RunError}
 use Rattle.net_host.specs.Outside.{Outside}
 use Rattle.net_host.specs.Run.{Task, task_of, Leaves, HasCause}
 use Rattle.host_top.specs.declared.command.RunCommand.{RunCommand}
-use Rattle.host_top.specs.Command.{settings_named}
+use Rattle.host_top.specs.RunWords.{settings_named}
 use Rattle.host_top.specs.Generator.{first_words, event_words}
-use Rattle.host_top.specs.HostMain.{task_named, Ran}
+use Rattle.host_top.specs.Ran.{task_named, Ran}
 
 -- three words for each event
 pub all_words : (run : RunCommand) (words : List ℕ) (count : ℕ) → words ≡ first_words run.seed count → count ≡ run.max_events * 3
@@ -24,7 +24,7 @@ same_task run settings words is_settings are_words =
 
 -- what the run left, as the command's
 pub ran : (run : RunCommand) (task : Task) (before after : Outside) (report : List Row) (error : RunError) → task ≡ task_named run
-    → Leaves task before after report error → HasCause task before after error → Ran run before after report error
+    → Leaves task before after report error → HasCause task before after error → Ran (task_named run) before after report error
 ran run task before after report error same leaves cause =
     let P : Task → Type 0 = λ t. Leaves t before after report error in
     let Q : Task → Type 0 = λ t. HasCause t before after error in

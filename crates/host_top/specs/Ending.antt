@@ -3,6 +3,7 @@ use Rattle.std.specs.Prelude.{ℕ, List, ◌++◌, Result, Ok, Err, codes}
 use Rattle.std.specs.Fmt.{decimal}
 use Rattle.phy_layers.specs.declared.byte_sink.SinkError.{SinkError}
 use Rattle.phy_layers.specs.declared.byte_sink.SinkError.TheVariants as sink
+use Rattle.host_top.specs.Usage.{usage_text}
 use Rattle.host_top.specs.declared.ending.Ending.{Ending}
 use Rattle.host_top.specs.declared.ending.Ending.TheVariants.{Done, Refused, Script, Limit, Read, Capture, NoMemory}
 
@@ -20,11 +21,6 @@ abbrev pub status_after : Ending → Result (Unit {0}) SinkError → ℕ
 status_after ending (Ok _) = status_of ending
 status_after ending (Err sink.Fault) = 6
 status_after ending (Err sink.NoMemory) = 7
-
--- how to use the program: a line for each command
-abbrev pub usage_text : List ℕ
-usage_text =
-    codes "usage: run HW SEED MAX [mtu=N] [lease=N] [naks=ignore|obey]\n" ++ codes "       make SEED COUNT\n"
 
 -- the last line: for refused words, how to use the program
 abbrev pub last_line : Ending → List ℕ

@@ -2,12 +2,14 @@
 use Rattle.std.specs.Prelude.{◌≡◌, ℕ, List, Option, Some, None, ⊤}
 use Rattle.phy_layers.specs.declared.byte_sink.ByteSink as byte_sink
 use Rattle.made_script.specs.Made.{IsMadeScript}
+use Rattle.net_host.specs.declared.report.Row.{Row}
 use Rattle.net_host.specs.Outside.{Outside}
 use Rattle.host_top.specs.declared.command.MakeCommand.{MakeCommand}
 use Rattle.host_top.specs.declared.ending.Ending.{Ending}
 use Rattle.host_top.specs.declared.ending.Ending.TheVariants.{Done, Capture, NoMemory}
-use Rattle.host_top.specs.Command.{run_of_make}
+use Rattle.host_top.specs.MakeWords.{run_of_make}
 use Rattle.host_top.specs.Generator.{event_words}
+use Rattle.host_top.specs.Ran.{RanTo}
 
 -- nothing was read
 pub record IsUnread (before after : Outside) : Type 0 where
@@ -33,6 +35,12 @@ IsEndingOfMade Done = ⊤
 IsEndingOfMade Capture = ⊤
 IsEndingOfMade NoMemory = ⊤
 IsEndingOfMade ending = ⊥
+
+-- What the run of a made script left when it ended so.
+abbrev pub MadeTo : MakeCommand → Outside → Outside → List Row → Ending → Type 0
+MadeTo make before after report ending =
+    IsEndingOfMade ending
+    × IsLeftByMade make (λ before after. RanTo (run_of_make make) before after report ending) before after
 
 -- an outside without a source
 abbrev pub sink_alone : {C : Type 0} → byte_sink.Ghosts C → C → Outside

@@ -1,27 +1,18 @@
 -- What is printed.
-use Rattle.std.specs.Prelude.{◌≡◌, ℕ, List, ◌++◌, Option, Some, None, Result}
+use Rattle.std.specs.Prelude.{◌≡◌, ℕ, List, Result}
 use Rattle.phy_layers.specs.declared.byte_sink.ByteSink as byte_sink
 use Rattle.phy_layers.specs.declared.byte_sink.SinkError.{SinkError}
 use Rattle.phy_layers.specs.Sink.{Took}
 use Rattle.net_host.specs.declared.report.Row.{Row}
-use Rattle.host_top.specs.declared.command.Command.{Command}
-use Rattle.host_top.specs.declared.command.Command.TheVariants.{Run, Make}
 use Rattle.host_top.specs.declared.ending.Ending.{Ending}
 use Rattle.host_top.specs.declared.ending.Ending.TheVariants.{Done}
 use Rattle.host_top.specs.Ending.{status_after, last_line}
-use Rattle.host_top.specs.ReportText.{report_bytes}
 use Rattle.host_top.specs.Summary.{summary_text}
 
 -- a script that is made is summed up in place of a last line, where its run was done
 abbrev pub summed_up : List Row → Ending → List ℕ
 summed_up report Done = summary_text report
 summed_up report ending = last_line ending
-
--- What is printed of a command that ended so, and where there is none: of a run the report and the last line.
-abbrev pub text_of : Option Command → List Row → Ending → List ℕ
-text_of None report ending = last_line ending
-text_of (Some (Run run)) report ending = report_bytes report ++ last_line ending
-text_of (Some (Make make)) report ending = summed_up report ending
 
 -- The text was handed to the output, which decides on the status beside the ending.
 pub record Prints {O : Type 0} (sink : byte_sink.Ghosts O) (text : List ℕ) (ending : Ending)

@@ -1,7 +1,10 @@
 //! The words of a command.
 ghost use Rattle.std.specs.Prelude.{ℕ, map, string_bytes, IfSome, IfNone};
-ghost use Rattle.host_top.specs.Command.{Names, IsTaken, NamesOne, WritesRun, WritesMake, IsCountWord};
+ghost use Rattle.host_top.specs.Command.{Names, IsTaken, NamesOne};
+ghost use Rattle.host_top.specs.RunWords.{WritesRun, IsCountWord};
+ghost use Rattle.host_top.specs.MakeWords.{WritesMake};
 
+use crate::disturb_command::{DisturbCommand, disturb_of};
 use crate::setting::{RunSettings, settings_of};
 use crate::word::{address_of, number_of, u32_of};
 use net_wire::EthernetAddress;
@@ -11,6 +14,9 @@ use net_wire::EthernetAddress;
 pub enum Command {
     Run(RunCommand),
     Make(MakeCommand),
+    /// Say how the program is used.
+    Help,
+    Disturb(DisturbCommand),
 }
 
 /// Run the host on the script of standard input.
@@ -44,6 +50,8 @@ pub fn parse(words: &[String]) -> Option<Command>
     match name.as_bytes() {
         b"run" => Some(Command::Run(run_of(words)?)),
         b"make" => Some(Command::Make(make_of(words)?)),
+        b"disturb" => Some(Command::Disturb(disturb_of(words)?)),
+        b"help" | b"--help" | b"-h" if words.is_empty() => Some(Command::Help),
         _ => None,
     }
 }
@@ -79,7 +87,7 @@ fn make_of(words: &[String]) -> Option<MakeCommand>
 }
 
 /// The number of events that a word writes.
-fn count_of(word: &[u8]) -> Option<u32>
+pub(crate) fn count_of(word: &[u8]) -> Option<u32>
     ensures found { IfSome result (IsCountWord word.now) }
     ensures refuses { IfNone result ((count : ℕ) → IsCountWord word.now count → ⊥) }
 {

@@ -4,12 +4,8 @@ ghost use Rattle.host_top.specs.Text.{Puts};
 ghost use Rattle.host_top.specs.Ending.{status_of, status_after, last_line};
 
 use crate::text::{put, put_number};
+use crate::usage::put_usage;
 use phy_layers::{ByteSink, SinkError};
-
-/// How to use the program: a line for each command.
-const RUN_USAGE: &[u8] = b"usage: run HW SEED MAX [mtu=N] [lease=N] [naks=ignore|obey]\n";
-
-const MAKE_USAGE: &[u8] = b"       make SEED COUNT\n";
 
 /// How a command ended, but for faults of the output.
 #[derive(Clone, Copy, Debug, PartialEq, Eq)]
@@ -58,16 +54,20 @@ impl Ending {
     }
 }
 
+/// How a command ended, and what the output answered.
+#[derive(Clone, Copy, Debug, PartialEq, Eq)]
+pub struct Finish {
+    pub ending: Ending,
+    pub answer: Result<(), SinkError>,
+}
+
 /// Writes the last line of the output.
 pub fn put_last_line<O: ByteSink>(out: &mut O, answer: &mut Result<(), SinkError>, ending: Ending)
     ensures { Puts O.bytes O.faults O.grows answer.old answer.new (last_line ending) out.old out.new }
 {
     match ending {
         Ending::Done => put(out, answer, b"done\n"),
-        Ending::Refused => {
-            put(out, answer, RUN_USAGE);
-            put(out, answer, MAKE_USAGE);
-        }
+        Ending::Refused => put_usage(out, answer),
         Ending::Script(offset) => {
             put(out, answer, b"script error at ");
             put_number(out, answer, offset);

@@ -1,29 +1,32 @@
 //! The program as a function: words and a script in; a capture, a report and its text out.
-ghost use Rattle.std.specs.Prelude.{◌≡◌, ◌*◌, [], ◌++◌, Option, Some, None, IfSome, map, string_bytes, option_map};
+ghost use Rattle.std.specs.Prelude.{◌≡◌, ℕ, List, [], ◌++◌, ◌⊎◌, Option, Some, None, IfSome, map, string_bytes};
 ghost use Rattle.wire_base.specs.Causes.{IsRisen};
 ghost use Rattle.phy_layers.specs.Sink.{Took};
 ghost use Rattle.net_host.specs.Outside.{outside_of};
-ghost use Rattle.host_top.specs.Command.{IsTaken, IsRunnable, IsCommand, run_of_make, settings_named};
+ghost use Rattle.host_top.specs.Command.{IsTaken, IsCommand};
+ghost use Rattle.host_top.specs.RunWords.{IsRunnable};
+ghost use Rattle.host_top.specs.MakeWords.{run_of_make};
+ghost use Rattle.host_top.specs.Disturb.{IsDisturbable, DisturbedTo};
 ghost use Rattle.host_top.specs.Ending.{last_line};
-ghost use Rattle.host_top.specs.Generator.{event_words};
-ghost use Rattle.host_top.specs.HostMain.{ForNamed, ComesExactly, IsDone, HasBrokenScript, HasLongScript, IsComplete};
-ghost use Rattle.host_top.specs.HostMain.{Ask, AskToMake, EndedAs, HasEnded, RanTo};
-ghost use Rattle.host_top.specs.Making.{sink_alone};
-ghost use Rattle.host_top.specs.Printing.{summed_up, text_of, Prints};
+ghost use Rattle.host_top.specs.HostMain.{ForNamed, IsDone, HasBrokenScript, HasLongScript, IsComplete};
+ghost use Rattle.host_top.specs.HostMain.{Ask, AskToMake, AskForNoWork, HasEnded, Finishes};
+ghost use Rattle.host_top.specs.Making.{sink_alone, MadeTo};
+ghost use Rattle.host_top.specs.Printing.{summed_up, Prints};
+ghost use Rattle.host_top.specs.Ran.{RanTo};
 ghost use Rattle.host_top.specs.ReportText.{report_bytes};
+ghost use Rattle.host_top.specs.Status.{ComesExactly};
 ghost use Rattle.host_top.specs.Summary.{summary_text};
+ghost use Rattle.host_top.specs.Usage.{help_text};
 
 use crate::command::{Command, MakeCommand, RunCommand, parse};
-use crate::ending::{Ending, put_last_line};
-use crate::generator::words_of;
+use crate::disturb_command::{DisturbCommand, run_over_bad_link};
+use crate::ending::{Ending, Finish, put_last_line};
 use crate::report_text::report_text;
-use crate::setting::RunSettings;
+use crate::running::{run_made, run_named};
 use crate::summary::put_summary;
 use crate::text::flush;
-use dhcp_client::RetryConfig;
-use made_script::{HOST_STATION, make_script};
-use net_host::{HostConfig, HostValues, Report, RunError, ScriptSource, SureSource, run};
-use net_wire::{Duration, NoMemory};
+use crate::usage::put_help;
+use net_host::{Report, ScriptSource};
 use phy_layers::{ByteSink, PcapSink, SinkError};
 use std::alloc::Global;
 
@@ -38,9 +41,10 @@ pub fn host_main<S: ScriptSource, C: PcapSink, O: ByteSink>(
 ) -> u8
     requires empty { report.old ≡ [] }
 
-    // Exactly the words that name no command are refused. Then nothing is read, captured or reported.
+    // Exactly the words that name no command are refused. Then nothing is read, captured or reported, and neither
+    // where they ask how the program is used.
     ensures refuses { ComesExactly 1 (IsTaken (map string_bytes args.now) → ⊥) result }
-    ensures untouched { (IsTaken (map string_bytes args.now) → ⊥)
+    ensures untouched { AskForNoWork (map string_bytes args.now)
         → (script.new ≡ script.old) × (capture.new ≡ capture.old) × (report.new ≡ []) }
 
     // 0: the command that the words name is done, and no count of faults changed.
@@ -71,183 +75,125 @@ pub fn host_main<S: ScriptSource, C: PcapSink, O: ByteSink>(
     ensures unread { AskToMake (map string_bytes args.now) → script.new ≡ script.old }
 
     // Whatever the status: what the words ask for, how it ended, with what it left, and the text of that.
-    ensures ended { (asked : Option Command) × (ending : Ending) × Ask (map string_bytes args.now) asked
+    ensures ended { (asked : Option Command) × (ending : Ending) × (text : List ℕ)
+        × Ask (map string_bytes args.now) asked
         × HasEnded asked (outside_of S.ScriptSource C.ByteSink script.old capture.old)
-        (outside_of S.ScriptSource C.ByteSink script.new capture.new) report.new ending
-        × Prints O.ByteSink (text_of asked report.new ending) ending result out.old out.new }
+        (outside_of S.ScriptSource C.ByteSink script.new capture.new) report.new ending text
+        × Prints O.ByteSink text ending result out.old out.new }
 {
     let command = parse(args);
-    let ending = obey(alloc, command, script, capture, report);
-    let answer = print(command, report, ending, out);
-    ending.status_after(answer)
+    let finish = obey(alloc, command, script, capture, out, report);
+    finish.ending.status_after(finish.answer)
 }
 
-/// Does what was asked for.
-fn obey<S: ScriptSource, C: PcapSink>(
+/// Does what was asked for, and prints what came of it.
+fn obey<S: ScriptSource, C: PcapSink, O: ByteSink>(
     alloc: Global,
     command: Option<Command>,
     script: &mut S,
     capture: &mut C,
+    out: &mut O,
     report: &mut Report,
-) -> Ending
+) -> Finish
     requires empty { report.old ≡ [] }
     requires command { IfSome command IsCommand }
-    ensures ended { HasEnded command (outside_of S.ScriptSource C.ByteSink script.old capture.old)
-        (outside_of S.ScriptSource C.ByteSink script.new capture.new) report.new result }
-    ensures untouched { command ≡ None
+    ensures ended { Finishes O.ByteSink command (outside_of S.ScriptSource C.ByteSink script.old capture.old)
+        (outside_of S.ScriptSource C.ByteSink script.new capture.new) report.new result out.old out.new }
+    ensures untouched { (command ≡ None) ⊎ (command ≡ Some Command.Help)
         → (script.new ≡ script.old) × (capture.new ≡ capture.old) × (report.new ≡ []) }
     ensures unread { (make : MakeCommand) → command ≡ Some (Command.Make make) → script.new ≡ script.old }
 {
     match command {
-        Some(Command::Run(run)) => obey_run(alloc, &run, script, capture, report),
-        Some(Command::Make(make)) => obey_make(alloc, &make, capture, report),
-        None => Ending::Refused,
+        Some(Command::Run(run)) => obey_run(alloc, &run, script, capture, out, report),
+        Some(Command::Make(make)) => obey_make(alloc, &make, capture, out, report),
+        Some(Command::Help) => obey_help(out),
+        Some(Command::Disturb(disturb)) => {
+            obey_disturb(alloc, &disturb, script, capture, out, report)
+        }
+        None => refuse(out),
     }
 }
 
-/// Runs the host on the script.
-fn obey_run<S: ScriptSource, C: PcapSink>(
+/// Runs the host on the script, and prints the report.
+fn obey_run<S: ScriptSource, C: PcapSink, O: ByteSink>(
     alloc: Global,
     command: &RunCommand,
     script: &mut S,
     capture: &mut C,
+    out: &mut O,
     report: &mut Report,
-) -> Ending
+) -> Finish
     requires empty { report.old ≡ [] }
     requires runnable { IsRunnable command.now }
-    ensures { RanTo command.now
-        (outside_of S.ScriptSource C.ByteSink script.old capture.old)
-        (outside_of S.ScriptSource C.ByteSink script.new capture.new) report.new result }
+    ensures ran { RanTo command.now (outside_of S.ScriptSource C.ByteSink script.old capture.old)
+        (outside_of S.ScriptSource C.ByteSink script.new capture.new) report.new result.ending }
+    ensures took { Took O.bytes O.faults O.grows result.answer
+        (report_bytes report.new ++ last_line result.ending) out.old out.new }
 {
-    match words_of(alloc, command.seed, command.max_events as usize * 3) {
-        Ok(words) => run_script(alloc, command, words.as_slice(), script, capture, report),
-        Err(NoMemory) => Ending::NoMemory,
-    }
+    let ending = run_named(alloc, command, script, capture, report);
+    let answer = print_run(report, ending, out);
+    Finish { ending, answer }
 }
 
-/// Makes a script, and runs the host on it.
-fn obey_make<C: PcapSink>(
+/// Runs the host on a script that is made, and prints the summary of the report.
+fn obey_make<C: PcapSink, O: ByteSink>(
     alloc: Global,
     command: &MakeCommand,
     capture: &mut C,
+    out: &mut O,
     report: &mut Report,
-) -> Ending
+) -> Finish
     requires empty { report.old ≡ [] }
     requires runnable { IsRunnable (run_of_make command.now) }
-    ensures { EndedAs (Command.Make command.now) (sink_alone C.ByteSink capture.old)
-        (sink_alone C.ByteSink capture.new) report.new result }
+    ensures made { MadeTo command.now (sink_alone C.ByteSink capture.old)
+        (sink_alone C.ByteSink capture.new) report.new result.ending }
+    ensures took { Took O.bytes O.faults O.grows result.answer (summed_up report.new result.ending) out.old out.new }
 {
-    let Ok(words) = words_of(alloc, command.seed, command.count as usize * 3) else {
-        return Ending::NoMemory;
-    };
-    let Ok(bytes) = make_script(alloc, words.as_slice(), command.count) else {
-        return Ending::NoMemory;
-    };
-    let run = run_of_make(command);
-    let mut script = SureSource::new(bytes);
-    run_script(alloc, &run, words.as_slice(), &mut script, capture, report)
+    let ending = run_made(alloc, command, capture, report);
+    let answer = print_made(report, ending, out);
+    Finish { ending, answer }
 }
 
-/// The run of a script that is made.
-fn run_of_make(command: &MakeCommand) -> RunCommand
-    ensures { result ≡ run_of_make command.now }
-{
-    RunCommand {
-        hardware: HOST_STATION,
-        seed: command.seed,
-        max_events: command.count,
-        settings: RunSettings {
-            ip_mtu: None,
-            max_lease_secs: None,
-            ignore_naks: None,
-        },
-    }
-}
-
-/// Runs the host on a script, by the words of its events.
-fn run_script<S: ScriptSource, C: PcapSink>(
+/// Runs the host over a bad link, and prints the report.
+fn obey_disturb<S: ScriptSource, C: PcapSink, O: ByteSink>(
     alloc: Global,
-    command: &RunCommand,
-    words: &[u32],
+    command: &DisturbCommand,
     script: &mut S,
     capture: &mut C,
-    report: &mut Report,
-) -> Ending
-    requires empty { report.old ≡ [] }
-    requires runnable { IsRunnable command.now }
-    requires words { words.now ≡ event_words command.now }
-    ensures { RanTo command.now
-        (outside_of S.ScriptSource C.ByteSink script.old capture.old)
-        (outside_of S.ScriptSource C.ByteSink script.new capture.new) report.new result }
-{
-    let config = config_of(command);
-    match run(
-        alloc,
-        script,
-        capture,
-        &config,
-        words,
-        command.max_events,
-        report,
-    ) {
-        Ok(()) => Ending::Done,
-        Err(error) => match error {
-            RunError::Script(offset) => Ending::Script(offset),
-            RunError::Limit => Ending::Limit,
-            RunError::Words => unreachable!(),
-            RunError::Read => Ending::Read,
-            RunError::Sink => Ending::Capture,
-            RunError::NoMemory => Ending::NoMemory,
-        },
-    }
-}
-
-/// The configuration of the host of a run.
-fn config_of(command: &RunCommand) -> HostConfig<'static>
-    requires { IsRunnable command.now }
-    ensures { result ≡ settings_named command.now }
-{
-    let settings = command.settings;
-    let values = HostValues {
-        hardware: command.hardware,
-        ip_mtu: settings.ip_mtu.unwrap_or(1500),
-        retry: RetryConfig::default(),
-        server_port: 67,
-        client_port: 68,
-        max_lease: longest_lease(settings.max_lease_secs),
-        ignore_naks: settings.ignore_naks.unwrap_or(false),
-        parameters: &[1, 3, 6],
-        options: &[],
-    };
-    match HostConfig::new(values) {
-        Ok(config) => config,
-        Err(_) => unreachable!(),
-    }
-}
-
-/// The span of so many seconds.
-fn longest_lease(secs: Option<u32>) -> Option<Duration>
-    ensures { result ≡ option_map (λ number. number * 1000000) secs }
-{
-    match secs {
-        None => None,
-        Some(number) => Some(Duration::from_secs(u64::from(number))),
-    }
-}
-
-/// Writes the text of what ended so, and has the output hand on what it holds back.
-fn print<O: ByteSink>(
-    command: Option<Command>,
-    report: &Report,
-    ending: Ending,
     out: &mut O,
-) -> Result<(), SinkError>
-    ensures { Took O.bytes O.faults O.grows result (text_of command report.now ending) out.old out.new }
+    report: &mut Report,
+) -> Finish
+    requires empty { report.old ≡ [] }
+    requires runnable { IsDisturbable command.now }
+    ensures ran { DisturbedTo command.now (outside_of S.ScriptSource C.ByteSink script.old capture.old)
+        (outside_of S.ScriptSource C.ByteSink script.new capture.new) report.new result.ending }
+    ensures took { Took O.bytes O.faults O.grows result.answer
+        (report_bytes report.new ++ last_line result.ending) out.old out.new }
 {
-    match command {
-        Some(Command::Run(_)) => print_run(report, ending, out),
-        Some(Command::Make(_)) => print_made(report, ending, out),
-        None => print_line(ending, out),
+    let ending = run_over_bad_link(alloc, command, script, capture, report);
+    let answer = print_run(report, ending, out);
+    Finish { ending, answer }
+}
+
+/// Prints how the program is used.
+fn obey_help<O: ByteSink>(out: &mut O) -> Finish
+    ensures ending { result.ending ≡ Ending.Done }
+    ensures took { Took O.bytes O.faults O.grows result.answer help_text out.old out.new }
+{
+    Finish {
+        ending: Ending::Done,
+        answer: print_help(out),
+    }
+}
+
+/// Says of words that name no command how the program is used.
+fn refuse<O: ByteSink>(out: &mut O) -> Finish
+    ensures ending { result.ending ≡ Ending.Refused }
+    ensures took { Took O.bytes O.faults O.grows result.answer (last_line Ending.Refused) out.old out.new }
+{
+    Finish {
+        ending: Ending::Refused,
+        answer: print_line(Ending::Refused, out),
     }
 }
 
@@ -283,6 +229,15 @@ fn print_line<O: ByteSink>(ending: Ending, out: &mut O) -> Result<(), SinkError>
 {
     let mut answer = Ok(());
     put_last_line(out, &mut answer, ending);
+    flush(out, &mut answer);
+    answer
+}
+
+fn print_help<O: ByteSink>(out: &mut O) -> Result<(), SinkError>
+    ensures { Took O.bytes O.faults O.grows result help_text out.old out.new }
+{
+    let mut answer = Ok(());
+    put_help(out, &mut answer);
     flush(out, &mut answer);
     answer
 }

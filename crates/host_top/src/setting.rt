@@ -44,6 +44,13 @@ pub fn settings_of(words: &[String]) -> Option<RunSettings>
 }
 
 impl RunSettings {
+    /// Nothing is set.
+    pub const NONE: RunSettings = RunSettings {
+        ip_mtu: None,
+        max_lease_secs: None,
+        ignore_naks: None,
+    };
+
     /// What is said with one setting more: nothing where its key has a value already.
     fn with(self, setting: Setting) -> Option<RunSettings>
         ensures found { IfSome result (λ said. (settings : List Setting) → Say settings self

@@ -7,7 +7,6 @@ pub mod CompleteLemmas
 pub mod ConfigLemmas
 pub mod Contexts
 pub mod CutLemmas
-pub mod CutRestLemmas
 pub mod DatagramPartLemmas
 pub mod DissectedLemmas
 pub mod DueLemmas
@@ -25,10 +24,10 @@ pub mod KeptLemmas
 pub mod LeaseLemmas
 pub mod Leaving
 pub mod LineLemmas
+pub mod LinkLemmas
 pub mod ListingLemmas
 pub mod LossLemmas
 pub mod MarkedLemmas
-pub mod MemorySourceLemmas
 pub mod NeighborLemmas
 pub mod NoDatagramLemmas
 pub mod OfferLemmas
@@ -62,12 +61,10 @@ pub mod QueryTakenLemmas
 pub mod QueryTurnLemmas
 pub mod QueryWalkLemmas
 pub mod ReadInLemmas
-pub mod ReadingLemmas
 pub mod ReadyLemmas
 pub mod RefusedLemmas
 pub mod RenewalLemmas
 pub mod ReportLemmas
-pub mod RestLemmas
 pub mod RightDatagramLemmas
 pub mod SettingsLemmas
 pub mod SmallLemmas
@@ -75,4 +72,5 @@ pub mod StandingLemmas
 pub mod StoppedLemmas
 pub mod TransportPartLemmas
 pub mod UdpPartLemmas
+pub mod TellingLemmas
 pub mod WordLemmas

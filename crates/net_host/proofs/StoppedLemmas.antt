@@ -6,12 +6,12 @@ use Rattle.host_model.specs.Script.{Event, SpellsAll, AreInOrder, last_time, Beg
 use Rattle.host_model.specs.Classes.{IsScript, BeginsWith, IsOverLimit, IsBrokenAt}
 use Rattle.net_host.specs.declared.host.Host.{Host}
 use Rattle.net_host.specs.declared.report.Row.{Row}
-use Rattle.net_host.specs.declared.script.ReadEventError.{ReadEventError}
-use Rattle.net_host.specs.declared.script.ReadEventError.TheVariants as read
+use Rattle.script_reader.specs.declared.script.ReadEventError.{ReadEventError}
+use Rattle.script_reader.specs.declared.script.ReadEventError.TheVariants as read
 use Rattle.net_host.specs.Captured.{run_capture}
 use Rattle.net_host.specs.Outside.{Outside, IsQuiet}
-use Rattle.net_host.specs.ReaderState.{ReaderState}
-use Rattle.net_host.specs.Reading.{EndsWith, RefusesEvent}
+use Rattle.script_reader.specs.ReaderState.{ReaderState}
+use Rattle.script_reader.specs.Reading.{EndsWith, RefusesEvent}
 use Rattle.net_host.specs.Run.{Task, AreAnswered, Taken, EndsBy, Stopped, Leaves, HasCause, Finished}
 use Rattle.net_host.specs.RunError.{of_read_event}
 use Rattle.net_host.proofs.ProgressLemmas.{Progress, taken_with}
@@ -20,7 +20,7 @@ use Rattle.net_host.proofs.ProgressLemmas.{Progress, taken_with}
 pub still_answered : (task : Task) (before now after : Outside) (report : List Row) (events : List Event) → after.captured ≡ now.captured
     → AreAnswered task before now report events → AreAnswered task before after report events
 still_answered task before now after report events same answered =
-    let P : Option (List ℕ) → Type 0 = λ c. Appends before.captured c (run_capture events report) in
+    let P : Option (List ℕ) → Type 0 = λ c. Appends before.captured c (run_capture (task.link events) report) in
     record { enough = answered.enough; rows = answered.rows; captured = subst P (sym same) answered.captured }
 
 -- what the reader said of the answer: where it was on the script, and how many events it had read
@@ -30,10 +30,10 @@ pub record SaidBy (task : Task) (reader : ReaderState) (left : Option (List ℕ)
   pub limit : error ≡ read.Limit → (task.max ≤ reader.events) × IfSome left (λ bytes. 0 < length bytes)
 
 -- a run that stopped so between two events
-stopped : (task : Task) (before now after : Outside) (old new : ReaderState) (host : Host) (report : List Row) (error : ReadEventError)
-    (progress : Progress task before now old host report) (refuses : RefusesEvent task.max old new now.left after.left error)
-    → after.captured ≡ now.captured → (Ends : Taken task before after → Type 0)
-    → Ends (taken_with task before now after old host report refuses.part progress refuses.took) → Stopped task before after report Ends
+stopped : {makes : (List Event → ℕ) → List Event → List Event} (task : Task) (before now after : Outside) (old new : ReaderState) (host : Host) (report : List Row) (error : ReadEventError)
+    (progress : Progress task makes before now old host report) (refuses : RefusesEvent task.max old new now.left after.left error)
+    → after.captured ≡ now.captured → (Ends : Taken task.max before after → Type 0)
+    → Ends (taken_with task before now after old host report refuses.part progress refuses.took) → Stopped task.max before after (AreAnswered task before after report) Ends
 unfolding taken_with
 stopped task before now after old new host report error progress refuses same Ends ends = record {
   taken = taken_with task before now after old host report refuses.part progress refuses.took;
@@ -42,16 +42,16 @@ stopped task before now after old new host report error progress refuses same En
 }
 
 -- the part behind the events is the reader's
-ends_by : (task : Task) (before now after : Outside) (old new : ReaderState) (host : Host) (report : List Row) (error : ReadEventError)
-    (progress : Progress task before now old host report) (refuses : RefusesEvent task.max old new now.left after.left error)
+ends_by : {makes : (List Event → ℕ) → List Event → List Event} (task : Task) (before now after : Outside) (old new : ReaderState) (host : Host) (report : List Row) (error : ReadEventError)
+    (progress : Progress task makes before now old host report) (refuses : RefusesEvent task.max old new now.left after.left error)
     → EndsBy error (taken_with task before now after old host report refuses.part progress refuses.took)
 unfolding taken_with
 ends_by task before now after old new host report error progress refuses =
     let P : ℕ → Type 0 = λ last. EndsWith error last after.left refuses.part in
     subst P (sym progress.latest) refuses.ends
 
-pub reading_leaves : (task : Task) (before now after : Outside) (old new : ReaderState) (host : Host) (report : List Row) (error : ReadEventError)
-    → Progress task before now old host report → RefusesEvent task.max old new now.left after.left error → SaidBy task old now.left error
+pub reading_leaves : {makes : (List Event → ℕ) → List Event → List Event} (task : Task) (before now after : Outside) (old new : ReaderState) (host : Host) (report : List Row) (error : ReadEventError)
+    → Progress task makes before now old host report → RefusesEvent task.max old new now.left after.left error → SaidBy task old now.left error
     → after.captured ≡ now.captured → Leaves task before after report (of_read_event error)
 unfolding taken_with
 reading_leaves task before now after old new host report (read.Script offset) progress refuses said same =
@@ -120,8 +120,8 @@ quiet_after before now after error counted other = record {
   capture = counted.capture ∙ counted.quiet.capture;
 }
 
-pub reading_cause : (task : Task) (before now after : Outside) (reader : ReaderState) (host : Host) (report : List Row) (error : ReadEventError)
-    → Progress task before now reader host report → SaidBy task reader now.left error → CountedBy before now after error
+pub reading_cause : {makes : (List Event → ℕ) → List Event → List Event} (task : Task) (before now after : Outside) (reader : ReaderState) (host : Host) (report : List Row) (error : ReadEventError)
+    → Progress task makes before now reader host report → SaidBy task reader now.left error → CountedBy before now after error
     → HasCause task before after (of_read_event error)
 reading_cause task before now after reader host report (read.Script offset) progress said counted =
     let says = said.script offset refl in
@@ -152,8 +152,8 @@ whole_script max (Some bytes) (Some more) events front in_order few spelled took
     let all : bytes ≡ front = took ∙ ap (λ l. front ++ l) ended ∙ append-nil front in
     record { in_order = in_order; few = few; whole = subst P (sym all) spelled }
 
-pub finished : (task : Task) (before now after : Outside) (reader : ReaderState) (host : Host) (report : List Row)
-    → Progress task before now reader host report → IsAtEnd now.left → IsAtEnd after.left → after.captured ≡ now.captured
+pub finished : {makes : (List Event → ℕ) → List Event → List Event} (task : Task) (before now after : Outside) (reader : ReaderState) (host : Host) (report : List Row)
+    → Progress task makes before now reader host report → IsAtEnd now.left → IsAtEnd after.left → after.captured ≡ now.captured
     → Finished task before after report
 finished task before now after reader host report progress was_at_end at_end same = record {
   events = progress.events;

@@ -11,10 +11,10 @@ use Rattle.host_model.specs.Lease.{leased_under}
 use Rattle.host_model.specs.Queries.{lines_at}
 use Rattle.net_host.specs.declared.host.Handled.{Handled}
 use Rattle.net_host.specs.declared.host.Host.{Host}
-use Rattle.net_host.specs.declared.script.ScriptEvent.{ScriptEvent}
+use Rattle.script_reader.specs.declared.script.ScriptEvent.{ScriptEvent}
 use Rattle.net_host.specs.Agreement.{AgreesWithHistory}
 use Rattle.net_host.specs.Config.{CanRun}
-use Rattle.net_host.specs.Reading.{event_at}
+use Rattle.script_reader.specs.Reading.{event_at}
 use Rattle.net_host.specs.Listed.{AreListed}
 use Rattle.net_host.specs.Neighbors.{HasRoom}
 use Rattle.net_host.specs.Polling.{IsReady}

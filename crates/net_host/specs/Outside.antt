@@ -1,7 +1,7 @@
 -- What the outside of a run tells.
 use Rattle.std.specs.Prelude.{◌≡◌, ℕ, List, Option}
 use Rattle.phy_layers.specs.declared.byte_sink.ByteSink as byte_sink
-use Rattle.net_host.specs.declared.source.ScriptSource as script_source
+use Rattle.script_source.specs.declared.source.ScriptSource as script_source
 
 -- what the script and the capture tell: the bytes still to come, the bytes taken, and the counts of faults
 pub record Outside : Type 0 where

@@ -1,5 +1,5 @@
 -- The rows of a report.
-use Rattle.std.specs.Prelude.{ℤ, ◌<◌, ◌^◌, List, [], Option, length}
+use Rattle.std.specs.Prelude.{◌≡◌, ℤ, ◌<◌, ◌^◌, ◌⊎◌, List, [], ◌∷◌, ◌++◌, Option, length}
 use Rattle.std.specs.List.{AllByRecursion}
 use Rattle.net_host.specs.declared.report.Sent.{Sent}
 use Rattle.ether_lax.specs.declared.note.FrameNote.{FrameNote}
@@ -11,6 +11,10 @@ use Rattle.net_host.specs.declared.report.Row.{Row}
 abbrev pub new_row : ℤ → Kind → Option FrameNote → Option Ipv4Cidr → Row
 new_row at kind note lease =
     record { at = at; kind = kind; note = note; lease = lease; sent = []; lines = [] }
+
+-- a report has these rows, and at most one behind them
+abbrev pub AddsAtMostOne : List Row → List Row → Type 0
+AddsAtMostOne rows report = (report ≡ rows) ⊎ ((row : Row) × (report ≡ rows ++ row ∷ []))
 
 -- frames that a record of a capture can hold
 abbrev pub AreCapturable : List Sent → Type 0

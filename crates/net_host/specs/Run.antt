@@ -12,32 +12,38 @@ use Rattle.host_model.specs.Script.{Event, SpellsAll, AreInOrder, last_time}
 use Rattle.host_model.specs.Classes.{IsScript, BeginsWith, IsOverLimit, IsBrokenAt}
 use Rattle.host_model.specs.Settings.{Settings}
 use Rattle.net_host.specs.declared.report.Row.{Row}
-use Rattle.net_host.specs.declared.script.ReadEventError.{ReadEventError}
-use Rattle.net_host.specs.declared.script.ReadEventError.TheVariants as read
+use Rattle.script_reader.specs.declared.script.ReadEventError.{ReadEventError}
+use Rattle.script_reader.specs.declared.script.ReadEventError.TheVariants as read
 use Rattle.net_host.specs.declared.run_script.RunError.{RunError}
 use Rattle.net_host.specs.declared.run_script.RunError.TheVariants.{Script, Limit, Words, Read, Sink, NoMemory}
 use Rattle.net_host.specs.Outside.{Outside, IsQuiet}
-use Rattle.net_host.specs.Reading.{EndsWith}
+use Rattle.script_reader.specs.Reading.{EndsWith}
 use Rattle.net_host.specs.Report.{new_row}
 use Rattle.net_host.specs.Rows.{AreRows, kind_of, IsNoteFor}
 use Rattle.net_host.specs.Captured.{run_capture}
 
--- what a run is told: the values of its host, the words of its events, and how many events there may be
+-- What a run is told: the values of its host, the words of its events, how many events there may be, and what
+-- the host meets of the events that are read.
 pub record Task : Type 0 where
   pub settings : Settings
   pub words : List ℕ
   pub max : ℕ
+  pub link : List Event → List Event
 
+abbrev pub task_over : (List Event → List Event) → Settings → List ℕ → ℕ → Task
+task_over link settings words max = record { settings = settings; words = words; max = max; link = link }
+
+-- where the host meets what is read
 abbrev pub task_of : Settings → List ℕ → ℕ → Task
-task_of settings words max = record { settings = settings; words = words; max = max }
+task_of settings words max = task_over (λ events. events) settings words max
 
--- The events are answered: each had three words and has its row, and the capture grew by its header and the
--- frames of the rows.
+-- The events are answered: each had three words, what the host met of it has its row, and the capture grew by
+-- its header and the frames of the rows.
 pub record AreAnswered (task : Task) (before after : Outside) (report : List Row)
     (events : List Event) : Type 0 where
   pub enough : 3 * length events ≤ length task.words
-  pub rows : AreRows task.settings task.words events report
-  pub captured : Appends before.captured after.captured (run_capture events report)
+  pub rows : AreRows task.settings task.words (task.link events) report
+  pub captured : Appends before.captured after.captured (run_capture (task.link events) report)
 
 -- A run that ended well. The source was read to its end; where it told its bytes, they were a script of these
 -- events, and all of them are answered.
@@ -49,31 +55,32 @@ pub record Finished (task : Task) (before after : Outside) (report : List Row) :
   pub ended : IsAtEnd after.left
   pub answered : AreAnswered task before after report events
 
--- What a run took from the source: events, whole and in order, of together `front`, and a part behind them.
-pub record Taken (task : Task) (before after : Outside) : Type 0 where
+-- What a run of at most `max` events took from the source: events, whole and in order, of together `front`, and a part behind them.
+pub record Taken (max : ℕ) (before after : Outside) : Type 0 where
   pub events : List Event
   pub front : List ℕ
   pub part : List ℕ
   pub in_order : AreInOrder 0 events
-  pub few : length events ≤ task.max
+  pub few : length events ≤ max
   pub spelled : SpellsAll events front
   pub took : Consumes before.left after.left (front ++ part)
 
 -- the part behind the events is what the reader takes that answers so
-abbrev pub EndsBy : {task : Task} {before after : Outside} → ReadEventError → Taken task before after → Type 0
-EndsBy {task} {before} {after} error taken = EndsWith error (last_time 0 taken.events) after.left taken.part
+abbrev pub EndsBy : {max : ℕ} {before after : Outside} → ReadEventError → Taken max before after → Type 0
+EndsBy {max} {before} {after} error taken = EndsWith error (last_time 0 taken.events) after.left taken.part
 
--- A run that stopped between two events, and ended so: all events that it took are answered.
-pub record Stopped (task : Task) (before after : Outside) (report : List Row)
-    (Ends : Taken task before after → Type 0) : Type 0 where
-  pub taken : Taken task before after
+-- A run of at most `max` events that stopped between two events, and ended so: all events that it took are
+-- answered.
+pub record Stopped (max : ℕ) (before after : Outside) (Answered : List Event → Type 0)
+    (Ends : Taken max before after → Type 0) : Type 0 where
+  pub taken : Taken max before after
   pub ends : Ends taken
-  pub answered : AreAnswered task before after report taken.events
+  pub answered : Answered taken.events
 
 -- A run whose words ran out: it took one event more than are answered, and fewer than three words were left
 -- for it.
 pub record RanOut (task : Task) (before after : Outside) (report : List Row) : Type 0 where
-  pub taken : Taken task before after
+  pub taken : Taken task.max before after
   pub whole : taken.part ≡ []
   pub answered_events : List Event
   pub event : Event
@@ -86,7 +93,7 @@ abbrev pub lease_before : Task → List Event → Option Ipv4Cidr
 lease_before task events =
     leased_under (anchor_before task.settings (history task.settings task.words events))
 
--- the last row is that of an event in which nothing was sent yet
+-- the last row is that of an event that the host met, in which nothing was sent yet
 pub record IsUnfinished (task : Task) (report : List Row) (events : List Event) : Type 0 where
   pub earlier : List Event
   pub event : Event
@@ -110,30 +117,38 @@ abbrev pub HasRows : Task → List Row → List Event → Type 0
 HasRows task report events =
     AreRows task.settings task.words events report ⊎ IsUnfinished task report events
 
--- A run that stopped inside an event, or in front of the first one: it took whole events, each of which had
--- three words, and nothing behind them, and the capture is a front of that of the rows.
-pub record Interrupted (task : Task) (before after : Outside) (report : List Row)
-    (Rows : List Event → Type 0) : Type 0 where
-  pub taken : Taken task before after
+-- Each of the events had three words, what the host met of them has these rows, and the capture is a front of
+-- that of the rows.
+pub record AreBegun (task : Task) (before after : Outside) (report : List Row) (Rows : List Event → Type 0)
+    (events : List Event) : Type 0 where
+  pub enough : 3 * length events ≤ length task.words
+  pub rows : Rows (task.link events)
+  pub captured : AppendsFront before.captured after.captured (run_capture (task.link events) report)
+
+-- A run of at most `max` events that stopped inside an event, or in front of the first one: it took whole events
+-- and nothing behind them, and they are answered so far.
+pub record Interrupted (max : ℕ) (before after : Outside) (Begun : List Event → Type 0) : Type 0 where
+  pub taken : Taken max before after
   pub whole : taken.part ≡ []
-  pub enough : 3 * length taken.events ≤ length task.words
-  pub rows : Rows taken.events
-  pub captured : AppendsFront before.captured after.captured (run_capture taken.events report)
+  pub begun : Begun taken.events
 
 -- what a run leaves that did not end well, by its answer
 abbrev pub Leaves : Task → Outside → Outside → List Row → RunError → Type 0
 Leaves task before after report (Script offset) =
-    Stopped task before after report
+    Stopped task.max before after (AreAnswered task before after report)
     (λ taken. (offset ≡ length taken.front) × EndsBy (read.Script offset) taken)
 Leaves task before after report Limit =
-    Stopped task before after report (λ taken. (length taken.events ≡ task.max) × EndsBy read.Limit taken)
+    Stopped task.max before after (AreAnswered task before after report)
+    (λ taken. (length taken.events ≡ task.max) × EndsBy read.Limit taken)
 Leaves task before after report Words = RanOut task before after report
 Leaves task before after report Read =
-    Stopped task before after report
+    Stopped task.max before after (AreAnswered task before after report)
     (λ taken. (0 < length taken.part → length taken.events < task.max) × EndsBy read.Read taken)
-Leaves task before after report Sink = Interrupted task before after report (HasRows task report)
+Leaves task before after report Sink =
+    Interrupted task.max before after (AreBegun task before after report (HasRows task report))
 Leaves task before after report NoMemory =
-    Interrupted task before after report (λ events. HasRows task report events ⊎ LacksRow task report events)
+    Interrupted task.max before after
+    (AreBegun task before after report (λ events. HasRows task report events ⊎ LacksRow task report events))
 
 -- the script begins with events within the limit, and there are fewer than three words for each
 pub record HasFewWords (task : Task) (before : Outside) : Type 0 where

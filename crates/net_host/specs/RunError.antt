@@ -1,8 +1,8 @@
 -- The answers of a run by those of its parts.
 use Rattle.phy_layers.specs.declared.byte_sink.SinkError.{SinkError}
 use Rattle.phy_layers.specs.declared.byte_sink.SinkError.TheVariants as sink
-use Rattle.net_host.specs.declared.script.ReadEventError.{ReadEventError}
-use Rattle.net_host.specs.declared.script.ReadEventError.TheVariants as read
+use Rattle.script_reader.specs.declared.script.ReadEventError.{ReadEventError}
+use Rattle.script_reader.specs.declared.script.ReadEventError.TheVariants as read
 use Rattle.net_host.specs.declared.run_script.RunError.{RunError}
 use Rattle.net_host.specs.declared.run_script.RunError.TheVariants.{Script, Limit, Read, Sink, NoMemory}
 

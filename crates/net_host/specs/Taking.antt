@@ -8,11 +8,11 @@ use Rattle.host_model.specs.declared.words.EventWords.{EventWords}
 use Rattle.net_host.specs.declared.host.Handled.{Handled}
 use Rattle.net_host.specs.declared.host.Host.{Host}
 use Rattle.net_host.specs.declared.report.Row.{Row}
-use Rattle.net_host.specs.declared.script.ScriptEvent.{ScriptEvent}
+use Rattle.script_reader.specs.declared.script.ScriptEvent.{ScriptEvent}
 use Rattle.net_host.specs.Captured.{arrived_record, event_records}
 use Rattle.net_host.specs.Handling.{HandlesEvent}
 use Rattle.net_host.specs.Holding.{host_lease}
-use Rattle.net_host.specs.Reading.{arrival_of, event_at}
+use Rattle.script_reader.specs.Reading.{arrival_of, event_at}
 use Rattle.net_host.specs.Report.{new_row}
 use Rattle.net_host.specs.Rows.{kind_of, IsNoteFor}
 

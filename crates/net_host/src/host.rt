@@ -22,7 +22,7 @@ ghost use Rattle.net_host.specs.QueryHearing.{HearsQueries};
 ghost use Rattle.net_host.specs.QueryPolling.{AreLent};
 ghost use Rattle.net_host.specs.QueryReady.{HoldsQueries};
 ghost use Rattle.net_host.specs.QueryStanding.{StandAs};
-ghost use Rattle.net_host.specs.Reading.{arrival_of};
+ghost use Rattle.script_reader.specs.Reading.{arrival_of};
 ghost use Rattle.phy_layers.specs.PcapBytes.{epoch_micros, IsCapturable};
 
 use crate::arrival::{arp_in, datagram_in};
@@ -78,6 +78,7 @@ pub(crate) struct Handled {
 }
 
 impl<'a, 'm> Host<'a, 'm> {
+    ghost use Rattle.host_model.specs.History.{Entry, last_id};
     ghost use Rattle.net_host.specs.Agreement.{AgreesWithHistory};
     ghost use Rattle.net_host.specs.Config.{CanRun};
     ghost use Rattle.net_host.specs.Handling.{HandlesEvent};
@@ -119,6 +120,14 @@ impl<'a, 'm> Host<'a, 'm> {
                 numbers: [0; 16],
             },
         }
+    }
+
+    /// The id of the DHCP message that was sent last; 1 before any.
+    pub fn last_id(&self) -> u32
+        ensures { (settings : Settings) (before : List Entry) → AgreesWithHistory settings before self.now
+            → result ≡ last_id before }
+    {
+        self.dhcp.transaction_id()
     }
 
     /// The leased address and its network's prefix; `None` without a lease.

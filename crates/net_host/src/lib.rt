@@ -4,7 +4,6 @@
 mod arrival;
 pub mod config;
 mod emitter;
-pub mod event_reader;
 mod hops;
 mod host;
 pub mod laws;
@@ -12,15 +11,14 @@ mod neighbors;
 mod queries;
 pub mod report;
 pub mod run_script;
-pub mod script;
-pub mod source;
-pub mod sources;
+pub mod watcher;
 
 pub use config::{HostConfig, HostConfigError, HostValues};
-pub use event_reader::EventReader;
 pub use host_model::{Outcome, QueryLine};
 pub use report::{Kind, LineList, Mark, Report, Row, Sent, SentList};
-pub use run_script::{RunError, run};
-pub use script::{EventHead, EventKind, ReadEventError, ScriptEvent};
-pub use source::{ReadFault, ScriptSource};
-pub use sources::{MemorySource, ReadSource, SureSource};
+pub use run_script::{RunError, run, run_over};
+pub use script_reader::{
+    Direct, EventHead, EventKind, EventReader, Link, ReadEventError, ScriptEvent,
+};
+pub use script_source::{MemorySource, ReadFault, ReadSource, ScriptSource, SureSource};
+pub use watcher::{Silent, Watcher};

@@ -17,14 +17,17 @@ ghost use Rattle.net_host.specs.QueryPolling.{AreLent};
 ghost use Rattle.net_host.specs.QueryReady.{HoldsQueries};
 ghost use Rattle.net_host.specs.Rows.{kind_of, IsNoteFor};
 ghost use Rattle.net_host.specs.Outside.{outside_of, IsQuiet};
-ghost use Rattle.net_host.specs.Run.{task_of, Finished, Leaves, HasCause, Completes};
+ghost use Rattle.net_host.specs.Run.{task_of, task_over, Finished, Leaves, HasCause, Completes};
+ghost use Rattle.net_host.specs.Told.{told_by};
 ghost use Rattle.net_host.specs.Taking.{standing, TakesEvent, LeavesRow, LeavesEvent};
-ghost use Rattle.net_host.specs.Reading.{arrival_of};
+ghost use Rattle.script_reader.specs.Reading.{arrival_of};
 
 use crate::host::Host;
 use crate::neighbors::Neighbors;
+use crate::watcher::tell;
 use crate::{
-    EventReader, HostConfig, Kind, ReadEventError, Report, ScriptEvent, ScriptSource, Sent,
+    Direct, EventReader, HostConfig, Kind, Link, ReadEventError, Report, ScriptEvent, ScriptSource,
+    Sent, Silent, Watcher,
 };
 use dns_client::DnsQuery;
 use ether_lax::{FrameNote, LaxSlicedPacket, NotedFrame, packet_and_note};
@@ -278,6 +281,61 @@ pub fn run<S: ScriptSource, C: PcapSink>(
         (outside_of S.ScriptSource C.ByteSink source.old capture.old)
         (outside_of S.ScriptSource C.ByteSink source.new capture.new) result }
 {
+    run_over(
+        alloc,
+        source,
+        &mut Direct,
+        capture,
+        config,
+        words,
+        max_events,
+        report,
+        &mut Silent,
+    )
+}
+
+/// Runs a script of which a link makes what the host meets, and tells a watcher of each row, the one of an event that was not taken
+/// in to its end too. Everything else is as in `run`: what is read, and why it stops, has nothing to do with the link.
+pub fn run_over<S: ScriptSource, L: Link, C: PcapSink, W: Watcher>(
+    alloc: Global,
+    source: &mut S,
+    link: &mut L,
+    capture: &mut C,
+    config: &HostConfig<'_>,
+    words: &[u32],
+    max_events: u32,
+    report: &mut Report,
+    watcher: &mut W,
+) -> Result<(), RunError>
+    requires empty { report.old ≡ [] }
+    requires some { 1 ≤ max_events }
+    requires max { max_events ≤ 10000 }
+    // It ended well: each event that the link makes of the script is answered.
+    ensures finished { OnOk result (Finished
+        (task_over (L.makes link.old (told_by config.now words.now)) config.now words.now max_events)
+        (outside_of S.ScriptSource C.ByteSink source.old capture.old)
+        (outside_of S.ScriptSource C.ByteSink source.new capture.new) report.new) }
+    ensures quiet { OnOk result (IsQuiet (outside_of S.ScriptSource C.ByteSink source.old capture.old)
+        (outside_of S.ScriptSource C.ByteSink source.new capture.new)) }
+    // It stopped: what it took and left, and why.
+    ensures leaves { IfErr result (Leaves
+        (task_over (L.makes link.old (told_by config.now words.now)) config.now words.now max_events)
+        (outside_of S.ScriptSource C.ByteSink source.old capture.old)
+        (outside_of S.ScriptSource C.ByteSink source.new capture.new) report.new) }
+    ensures cause { IfErr result (HasCause
+        (task_over (L.makes link.old (told_by config.now words.now)) config.now words.now max_events)
+        (outside_of S.ScriptSource C.ByteSink source.old capture.old)
+        (outside_of S.ScriptSource C.ByteSink source.new capture.new)) }
+    ensures later { (S.faults source.old ≤ S.faults source.new)
+        × (C.faults capture.old ≤ C.faults capture.new) }
+    // It stops without a cause only where memory runs out.
+    ensures complete { Completes
+        (task_over (L.makes link.old (told_by config.now words.now)) config.now words.now max_events)
+        (outside_of S.ScriptSource C.ByteSink source.old capture.old)
+        (outside_of S.ScriptSource C.ByteSink source.new capture.new) result }
+    // The watcher saw all rows, whatever became of the run.
+    ensures seen { W.sees watcher.old report.new watcher.new }
+{
     let mut reader = EventReader::new(alloc)?;
     let mut places = empty_places(alloc, max_events)?;
     capture.global_header(PcapLinkType::Ethernet)?;
@@ -285,14 +343,19 @@ pub fn run<S: ScriptSource, C: PcapSink>(
     let mut slots = no_queries();
     let mut host = Host::new(alloc, config, neighbors, &mut slots);
     for count in 0..max_events + 1 {
-        let Some(head) = reader.next(source, max_events)? else {
+        let Some(head) = reader.next_head(source, max_events)? else {
             return Ok(());
         };
-        let (at, event) = reader.event(head);
+        let id = host.last_id();
+        let met = reader.pass(id, head, link);
+        let (at, event) = reader.event(met);
         let Some(drawn) = words_at(words, count) else {
             return Err(RunError::Words);
         };
-        take_event(&mut host, capture, report, at, event, drawn)?;
+        let before = report.rows().len();
+        let taken = take_event(&mut host, capture, report, at, event, drawn);
+        tell(watcher, report, before);
+        taken?;
     }
     unreachable!()
 }

@@ -1,3 +1,6 @@
 pub mod Arriving
 pub mod Beginning
+pub mod Disturbing
+pub mod Muffled
 pub mod Reached
+pub mod Reported

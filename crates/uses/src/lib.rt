@@ -5,11 +5,15 @@
 pub mod arriving;
 pub mod cuts;
 pub mod dissection;
+pub mod disturbing;
 pub mod headers;
 pub mod ipsec;
 pub mod layers;
 pub mod leases;
+pub mod links;
 pub mod printing;
 pub mod queries;
+pub mod rules;
 pub mod runs;
+pub mod scripts;
 pub mod sums;

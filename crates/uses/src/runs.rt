@@ -1,20 +1,32 @@
 //! A caller of `net_host`.
-ghost use Rattle.std.specs.Prelude.{◌≡◌, [], IfOk, IfNone, IfSome};
-ghost use Rattle.uses.specs.Beginning.{BeginsAt};
+ghost use Rattle.std.specs.Prelude.{IfOk};
+ghost use Rattle.uses.specs.Reported.{HasRowsOf};
 
-use net_host::{EventReader, RunError, SureSource};
-use net_wire::Instant;
+use net_host::{HostConfig, Report, RunError, run};
+use phy_layers::SureSink;
+use script_source::SureSource;
 use std::alloc::Global;
 
-/// The time of the first event of a script in memory; none is there only where the script is empty.
-pub fn first_time(alloc: Global, script: Vec<u8>) -> Result<Option<Instant>, RunError>
-    ensures found { IfOk result (λ time. IfSome time (λ at. BeginsAt script.items at)) }
-    ensures empty { IfOk result (λ time. IfNone time (script.items ≡ [])) }
+/// The report of a script in memory: a row for each of its events.
+pub fn report_of(
+    alloc: Global,
+    script: Vec<u8>,
+    config: &HostConfig<'_>,
+    words: &[u32],
+) -> Result<Report, RunError>
+    ensures rows { IfOk result (λ report. HasRowsOf config.now words.now script.items report) }
 {
-    let mut reader = EventReader::new(alloc)?;
+    let mut report = Report::new(alloc);
     let mut source = SureSource::new(script);
-    match reader.next(&mut source, 10_000)? {
-        Some(head) => Ok(Some(reader.event(head).0)),
-        None => Ok(None),
-    }
+    let mut capture = SureSink::new(alloc);
+    run(
+        alloc,
+        &mut source,
+        &mut capture,
+        config,
+        words,
+        1000,
+        &mut report,
+    )?;
+    Ok(report)
 }

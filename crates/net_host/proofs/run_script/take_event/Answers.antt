@@ -5,7 +5,7 @@ use Rattle.wire_base.specs.Causes.{AppendsFront}
 use Rattle.phy_layers.specs.PcapBytes.{epoch_micros}
 use Rattle.phy_layers.proofs.SinkLemmas.{Appends-then, AppendsFront-then}
 use Rattle.net_host.specs.Captured.{arrived_record, sent_records}
-use Rattle.net_host.specs.Reading.{arrival_of}
+use Rattle.script_reader.specs.Reading.{arrival_of}
 use Rattle.net_host.specs.Report.{new_row}
 use Rattle.net_host.specs.Rows.{kind_of}
 use Rattle.net_host.proofs.PlacingLemmas.{place_row}

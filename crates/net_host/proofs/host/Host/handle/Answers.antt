@@ -22,7 +22,7 @@ use Rattle.net_host.specs.QueryLeaving.{LeavesLooks}
 use Rattle.net_host.specs.QueryPolling.{PolledQueries}
 use Rattle.net_host.specs.QueryStanding.{StandAs}
 use Rattle.net_host.specs.Report.{AreCapturable}
-use Rattle.net_host.specs.Reading.{arrival_of, event_at}
+use Rattle.script_reader.specs.Reading.{arrival_of, event_at}
 use Rattle.net_host.proofs.ArrivedLemmas.{arrival_ready}
 use Rattle.net_host.proofs.EventLemmas.{leased}
 use Rattle.net_host.proofs.KeptLemmas.{told_places, told_few}

@@ -11,7 +11,7 @@ use Rattle.net_host.specs.declared.host.Host.{Host}
 use Rattle.net_host.specs.Dissected.{IsPacketFor, IsPacketIn}
 use Rattle.net_host.specs.QueryHearing.{HearsQueries}
 use Rattle.net_host.specs.QueryStanding.{StandAs}
-use Rattle.net_host.specs.Reading.{arrival_of}
+use Rattle.script_reader.specs.Reading.{arrival_of}
 use Rattle.net_host.proofs.QueryHeardLemmas.{frame_heard, none_short, told_hardware, told_numbers}
 use Rattle.net_host.proofs.host.Host.hear.Goals as goal
 use Rattle.net_host.proofs.host.Host.hear.Goals.{in-Some+in_ok-take_told-in-Frame, in_default}

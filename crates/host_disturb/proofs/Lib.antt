@@ -1,0 +1,5 @@
+pub mod ExampleLemmas
+pub mod GoodLemmas
+pub mod MetLemmas
+pub mod SpelledLemmas
+pub mod StepLemmas

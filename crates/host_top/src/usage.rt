@@ -1,0 +1,48 @@
+//! How the program is used.
+ghost use Rattle.host_top.specs.Text.{Puts};
+ghost use Rattle.host_top.specs.Usage.{usage_text, words_text, files_text, help_text};
+
+use crate::text::put;
+use phy_layers::{ByteSink, SinkError};
+
+/// Writes a line for each command.
+pub fn put_usage<O: ByteSink>(out: &mut O, answer: &mut Result<(), SinkError>)
+    ensures { Puts O.bytes O.faults O.grows answer.old answer.new usage_text out.old out.new }
+{
+    put(
+        out,
+        answer,
+        b"usage: run HW SEED MAX [mtu=N] [lease=N] [naks=ignore|obey]\n       make SEED COUNT\n       disturb HW SEED MAX FSEED DROP CORRUPT\n       help\n",
+    );
+}
+
+/// Writes what the words of the commands are.
+fn put_words<O: ByteSink>(out: &mut O, answer: &mut Result<(), SinkError>)
+    ensures { Puts O.bytes O.faults O.grows answer.old answer.new words_text out.old out.new }
+{
+    put(
+        out,
+        answer,
+        b"HW       the hardware address of the host: twelve hexadecimal digits\nSEED     where the ids and ports of its messages come from: 0 to 4294967295\nMAX      the most events that the script may have: 1 to 10000\nCOUNT    how many events the made script has: 1 to 10000\n",
+    );
+}
+
+/// Writes what is read and what is written.
+fn put_files<O: ByteSink>(out: &mut O, answer: &mut Result<(), SinkError>)
+    ensures { Puts O.bytes O.faults O.grows answer.old answer.new files_text out.old out.new }
+{
+    put(
+        out,
+        answer,
+        b"input    standard input: the script of frames, ticks, queries and resets\noutput   standard output: the report, a row an event\ncapture  capture.pcap: all frames, those that arrived and those that the host sent\n",
+    );
+}
+
+/// Writes how the program is used.
+pub fn put_help<O: ByteSink>(out: &mut O, answer: &mut Result<(), SinkError>)
+    ensures { Puts O.bytes O.faults O.grows answer.old answer.new help_text out.old out.new }
+{
+    put_usage(out, answer);
+    put_words(out, answer);
+    put_files(out, answer);
+}

@@ -1,6 +1,0 @@
--- No fault has been counted.
-use Rattle.std.proofs.Common.{◌≡◌}
-use Rattle.net_host.proofs.sources.reader.ReadSourceScriptSource.read.Given as goal
-
-abbrev pub invariant-loop : goal.invariant-loop
-invariant-loop g l = l.self.faults ≡ l.fn.self.faults

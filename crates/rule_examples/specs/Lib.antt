@@ -1,0 +1,14 @@
+pub mod CaptureBytes
+pub mod DhcpMessages
+pub mod DhcpOptionRules
+pub mod ExtensionHeaders
+pub mod Icmpv4Messages
+pub mod Icmpv6Messages
+pub mod IpFields
+pub mod IpTexts
+pub mod LinkFields
+pub mod LinkTexts
+pub mod NetAddresses
+pub mod SentHeaders
+pub mod Tags
+pub mod TransportFields

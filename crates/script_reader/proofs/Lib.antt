@@ -1,0 +1,3 @@
+pub mod CutRestLemmas
+pub mod ReadingLemmas
+pub mod RestLemmas

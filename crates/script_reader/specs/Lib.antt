@@ -1,0 +1,4 @@
+pub mod EventReader
+pub mod Head
+pub mod ReaderState
+pub mod Reading

@@ -1,0 +1,2 @@
+pub mod MemorySourceLemmas
+pub mod PieceLemmas

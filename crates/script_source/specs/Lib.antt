@@ -1,0 +1,3 @@
+pub mod MemorySource
+pub mod Source
+pub mod SureSource
