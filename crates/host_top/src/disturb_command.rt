@@ -93,7 +93,7 @@ fn faults_of(command: &DisturbCommand) -> FaultValues
         corrupt_chance: command.corrupt_chance,
         max_size: 0,
         rate: 0,
-        interval: Duration::ZERO,
+        interval: Duration::from_micros(0),
     }
 }
 

@@ -23,7 +23,7 @@ fn put_words<O: ByteSink>(out: &mut O, answer: &mut Result<(), SinkError>)
     put(
         out,
         answer,
-        b"HW       the hardware address of the host: twelve hexadecimal digits\nSEED     where the ids and ports of its messages come from: 0 to 4294967295\nMAX      the most events that the script may have: 1 to 10000\nCOUNT    how many events the made script has: 1 to 10000\n",
+        b"HW       the hardware address of the host: twelve hexadecimal digits\nSEED     where the ids and ports of its messages come from: 0 to 4294967295\nMAX      the most events that the script may have: 1 to 10000\nCOUNT    how many events the made script has: 1 to 10000\nFSEED    where the faults of a bad link come from: 0 to 4294967295\nDROP     how often a frame is dropped, in percent: 0 to 100\nCORRUPT  how often a frame has a bit flipped, in percent: 0 to 100\n",
     );
 }
 
