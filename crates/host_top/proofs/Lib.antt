@@ -1,6 +1,7 @@
 pub mod CommandLemmas
 pub mod DigitLemmas
 pub mod EndingLemmas
+pub mod FinishLemmas
 pub mod HexLemmas
 pub mod JoinLemmas
 pub mod MakingLemmas

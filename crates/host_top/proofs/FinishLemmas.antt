@@ -1,0 +1,81 @@
+-- What each command finishes with.
+use Rattle.std.proofs.Common.{◌≡◌, List, [], ◌++◌, Option, Some, None, refl, sym, ap, subst}
+use Rattle.phy_layers.specs.declared.byte_sink.ByteSink as byte_sink
+use Rattle.phy_layers.specs.Sink.{Took}
+use Rattle.script_source.specs.declared.source.ScriptSource as script_source
+use Rattle.net_host.specs.declared.report.Row.{Row}
+use Rattle.net_host.specs.Outside.{Outside, outside_of}
+use Rattle.host_top.specs.declared.command.Command.TheVariants.{Run, Make, Help, Disturb}
+use Rattle.host_top.specs.declared.command.MakeCommand.{MakeCommand}
+use Rattle.host_top.specs.declared.command.RunCommand.{RunCommand}
+use Rattle.host_top.specs.declared.disturb_command.DisturbCommand.{DisturbCommand}
+use Rattle.host_top.specs.declared.ending.Ending.TheVariants.{Done, Refused}
+use Rattle.host_top.specs.declared.ending.Finish.{Finish}
+use Rattle.host_top.specs.Disturb.{DisturbedTo}
+use Rattle.host_top.specs.Ending.{last_line}
+use Rattle.host_top.specs.HostMain.{Finishes}
+use Rattle.host_top.specs.Making.{MadeTo, sink_alone}
+use Rattle.host_top.specs.Printing.{summed_up}
+use Rattle.host_top.specs.Ran.{RanTo}
+use Rattle.host_top.specs.ReportText.{report_bytes}
+use Rattle.host_top.specs.Usage.{help_text}
+
+pub finishes_run : {O : Type 0} (sink : byte_sink.Ghosts O) (run : RunCommand) (before after : Outside) (report : List Row) (finish : Finish)
+    (old new : O) → RanTo run before after report finish.ending
+    → Took sink.bytes sink.faults sink.grows finish.answer (report_bytes report ++ last_line finish.ending) old new
+    → Finishes sink (Some (Run run)) before after report finish old new
+finishes_run {O} sink run before after report finish old new ran took = record {
+  text = report_bytes report ++ last_line finish.ending;
+  ended = record { ran = ran; says = refl };
+  took = took;
+}
+
+pub finishes_disturb : {O : Type 0} (sink : byte_sink.Ghosts O) (disturb : DisturbCommand) (before after : Outside) (report : List Row)
+    (finish : Finish) (old new : O) → DisturbedTo disturb before after report finish.ending
+    → Took sink.bytes sink.faults sink.grows finish.answer (report_bytes report ++ last_line finish.ending) old new
+    → Finishes sink (Some (Disturb disturb)) before after report finish old new
+finishes_disturb {O} sink disturb before after report finish old new ran took = record {
+  text = report_bytes report ++ last_line finish.ending;
+  ended = record { ran = ran; says = refl };
+  took = took;
+}
+
+-- nothing is read where the script is made
+pub finishes_make : {S C O : Type 0} (source : script_source.Ghosts S) (captures : byte_sink.Ghosts C) (sink : byte_sink.Ghosts O)
+    (make : MakeCommand) (script : S) (first last : C) (report : List Row) (finish : Finish) (old new : O)
+    → MadeTo make (sink_alone captures first) (sink_alone captures last) report finish.ending
+    → Took sink.bytes sink.faults sink.grows finish.answer (summed_up report finish.ending) old new
+    → Finishes sink (Some (Make make)) (outside_of source captures script first) (outside_of source captures script last) report finish old new
+finishes_make {S} {C} {O} source captures sink make script first last report finish old new made took = record {
+  text = summed_up report finish.ending;
+  ended = record {
+    may = made.0;
+    left = record {
+      bytes = made.1.bytes;
+      rest = made.1.rest;
+      made = made.1.made;
+      unread = record { left = refl; faults = refl };
+      left = made.1.left;
+    };
+    says = refl;
+  };
+  took = took;
+}
+
+pub finishes_help : {O : Type 0} (sink : byte_sink.Ghosts O) (before : Outside) (report : List Row) (finish : Finish) (old new : O)
+    → report ≡ [] → finish.ending ≡ Done → Took sink.bytes sink.faults sink.grows finish.answer help_text old new
+    → Finishes sink (Some Help) before before report finish old new
+finishes_help {O} sink before report finish old new empty done took = record {
+  text = help_text;
+  ended = record { done = done; empty = empty; same = refl; says = refl };
+  took = took;
+}
+
+pub finishes_refused : {O : Type 0} (sink : byte_sink.Ghosts O) (before : Outside) (report : List Row) (finish : Finish) (old new : O)
+    → finish.ending ≡ Refused → Took sink.bytes sink.faults sink.grows finish.answer (last_line Refused) old new
+    → Finishes sink None before before report finish old new
+finishes_refused {O} sink before report finish old new refused took = record {
+  text = last_line Refused;
+  ended = record { refused = refused; says = refl };
+  took = took;
+}
