@@ -6,6 +6,6 @@ mod disturber;
 mod fault_values;
 pub mod laws;
 
-pub use disturbed_run::run_disturbed;
+pub use disturbed_run::{run_disturbed, watch_disturbed};
 pub use disturber::Disturber;
 pub use fault_values::FaultValues;

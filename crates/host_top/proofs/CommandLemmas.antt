@@ -7,6 +7,7 @@ use Rattle.net_host.specs.declared.config.HostConfigError.{HostConfigError}
 use Rattle.net_host.specs.Config.{refusal_of}
 use Rattle.net_host.proofs.SettingsLemmas.{defaults_accepted}
 use Rattle.net_wire.specs.declared.address.EthernetAddress.{EthernetAddress}
+use Rattle.host_top.specs.declared.command.Asked.{Asked}
 use Rattle.host_top.specs.declared.command.Command.{Command}
 use Rattle.host_top.specs.declared.command.Command.TheVariants.{Run, Make, Help, Disturb}
 use Rattle.host_top.specs.declared.command.MakeCommand.{MakeCommand}
@@ -16,7 +17,7 @@ use Rattle.host_top.specs.declared.disturb_command.DisturbCommand.{DisturbComman
 use Rattle.host_top.specs.Disturb.{WritesDisturb}
 use Rattle.host_top.specs.RunWords.{WritesRun, NamesRun, IsRunnable, settings_named}
 use Rattle.host_top.specs.MakeWords.{WritesMake, NamesMake, run_of_make}
-use Rattle.host_top.specs.Command.{NameHelp, IsHelpWord, Names, IsTaken, NamesOne, IsCommand}
+use Rattle.host_top.specs.Command.{NameHelp, IsHelpWord, NameWork, NameLiveWork, CanBeLive, Names, AreNamed, command_asked, IsTaken, NamesOne, IsCommand}
 use Rattle.host_top.specs.HostMain.{Ask, AskForNoWork}
 use Rattle.host_top.specs.Setting.{Sets}
 use Rattle.host_top.proofs.OneSettingLemmas.{sets_one}
@@ -76,31 +77,31 @@ moved_behind f words key rest are = behind_one f words key rest are ∙ ap (map 
 
 -- where the words behind the first one write nothing
 pub unwritten : {X : Type 0} (f : X → List ℕ) (words : List X) → ((run : RunCommand) → WritesRun (behind_first f words) run → ⊥)
-    → IsFirst f words (codes "run") → IsTaken (map f words) → ⊥
-unwritten f words none first (Run run, named) =
+    → IsFirst f words (codes "run") → (command : Command) → NameWork (map f words) command → ⊥
+unwritten f words none first (Run run) named =
     none run (subst (λ l. WritesRun l run) (moved_behind f words (codes "run") named.behind named.are) named.write)
-unwritten f words none first (Make make, named) = absurd (cc (first (codes "make") named.behind named.are))
-unwritten f words none first (Disturb disturb, named) = absurd (cc (first (codes "disturb") named.behind named.are))
-unwritten f words none first (Help, named) =
+unwritten f words none first (Make make) named = absurd (cc (first (codes "make") named.behind named.are))
+unwritten f words none first (Disturb disturb) named = absurd (cc (first (codes "disturb") named.behind named.are))
+unwritten f words none first Help named =
     other_than (codes "run") named.word run_is_no_help named.asks (first named.word [] named.are)
 
 pub unmade : {X : Type 0} (f : X → List ℕ) (words : List X) → ((make : MakeCommand) → WritesMake (behind_first f words) make → ⊥)
-    → IsFirst f words (codes "make") → IsTaken (map f words) → ⊥
-unmade f words none first (Run run, named) = absurd (cc (first (codes "run") named.behind named.are))
-unmade f words none first (Make make, named) =
+    → IsFirst f words (codes "make") → (command : Command) → NameWork (map f words) command → ⊥
+unmade f words none first (Run run) named = absurd (cc (first (codes "run") named.behind named.are))
+unmade f words none first (Make make) named =
     none make (subst (λ l. WritesMake l make) (moved_behind f words (codes "make") named.behind named.are) named.write)
-unmade f words none first (Disturb disturb, named) = absurd (cc (first (codes "disturb") named.behind named.are))
-unmade f words none first (Help, named) =
+unmade f words none first (Disturb disturb) named = absurd (cc (first (codes "disturb") named.behind named.are))
+unmade f words none first Help named =
     other_than (codes "make") named.word make_is_no_help named.asks (first named.word [] named.are)
 
 pub undisturbed : {X : Type 0} (f : X → List ℕ) (words : List X)
     → ((disturb : DisturbCommand) → WritesDisturb (behind_first f words) disturb → ⊥)
-    → IsFirst f words (codes "disturb") → IsTaken (map f words) → ⊥
-undisturbed f words none first (Run run, named) = absurd (cc (first (codes "run") named.behind named.are))
-undisturbed f words none first (Make make, named) = absurd (cc (first (codes "make") named.behind named.are))
-undisturbed f words none first (Disturb disturb, named) =
+    → IsFirst f words (codes "disturb") → (command : Command) → NameWork (map f words) command → ⊥
+undisturbed f words none first (Run run) named = absurd (cc (first (codes "run") named.behind named.are))
+undisturbed f words none first (Make make) named = absurd (cc (first (codes "make") named.behind named.are))
+undisturbed f words none first (Disturb disturb) named =
     none disturb (subst (λ l. WritesDisturb l disturb) (moved_behind f words (codes "disturb") named.behind named.are) named.write)
-undisturbed f words none first (Help, named) =
+undisturbed f words none first Help named =
     other_than (codes "disturb") named.word disturb_is_no_help named.asks (first named.word [] named.are)
 
 abbrev address_made : List ℕ → EthernetAddress
@@ -158,38 +159,80 @@ writes_one_disturb words one other first second =
     same_disturb one.run other.run one.fault_seed other.fault_seed one.drop_chance other.drop_chance one.corrupt_chance other.corrupt_chance
     run fault drop corrupt
 
--- words name one command at most
-pub names_one : NamesOne
-names_one words (Run one) (Make other) first second = absurd (cc (first.are, second.are))
-names_one words (Make one) (Run other) first second = absurd (cc (first.are, second.are))
-names_one words (Make one) (Make other) first second =
+-- words without `live` name one command at most
+pub one_work : (words : List (List ℕ)) (one other : Command) → NameWork words one → NameWork words other → one ≡ other
+one_work words (Run one) (Make other) first second = absurd (cc (first.are, second.are))
+one_work words (Make one) (Run other) first second = absurd (cc (first.are, second.are))
+one_work words (Make one) (Make other) first second =
     let behind_make : second.behind ≡ first.behind = cc (first.are, second.are) in
     ap Make (writes_one_make first.behind one other first.write (subst (λ l. WritesMake l other) behind_make second.write))
-names_one words (Run one) (Run other) first second =
+one_work words (Run one) (Run other) first second =
     let behind_run : second.behind ≡ first.behind = cc (first.are, second.are) in
     ap Run (writes_one first.behind one other first.write (subst (λ l. WritesRun l other) behind_run second.write))
-names_one words (Disturb one) (Disturb other) first second =
+one_work words (Disturb one) (Disturb other) first second =
     let behind_disturb : second.behind ≡ first.behind = cc (first.are, second.are) in
     ap Disturb (writes_one_disturb first.behind one other first.write (subst (λ l. WritesDisturb l other) behind_disturb second.write))
-names_one words (Run one) (Disturb other) first second = absurd (cc (first.are, second.are))
-names_one words (Make one) (Disturb other) first second = absurd (cc (first.are, second.are))
-names_one words (Disturb one) (Run other) first second = absurd (cc (first.are, second.are))
-names_one words (Disturb one) (Make other) first second = absurd (cc (first.are, second.are))
-names_one words Help Help first second = refl
-names_one words (Run one) Help first second = absurd (help_against words (codes "run") first.behind run_is_no_help second first.are)
-names_one words (Make one) Help first second = absurd (help_against words (codes "make") first.behind make_is_no_help second first.are)
-names_one words (Disturb one) Help first second =
+one_work words (Run one) (Disturb other) first second = absurd (cc (first.are, second.are))
+one_work words (Make one) (Disturb other) first second = absurd (cc (first.are, second.are))
+one_work words (Disturb one) (Run other) first second = absurd (cc (first.are, second.are))
+one_work words (Disturb one) (Make other) first second = absurd (cc (first.are, second.are))
+one_work words Help Help first second = refl
+one_work words (Run one) Help first second = absurd (help_against words (codes "run") first.behind run_is_no_help second first.are)
+one_work words (Make one) Help first second = absurd (help_against words (codes "make") first.behind make_is_no_help second first.are)
+one_work words (Disturb one) Help first second =
     absurd (help_against words (codes "disturb") first.behind disturb_is_no_help second first.are)
-names_one words Help (Run other) first second = absurd (help_against words (codes "run") second.behind run_is_no_help first second.are)
-names_one words Help (Make other) first second = absurd (help_against words (codes "make") second.behind make_is_no_help first second.are)
-names_one words Help (Disturb other) first second =
+one_work words Help (Run other) first second = absurd (help_against words (codes "run") second.behind run_is_no_help first second.are)
+one_work words Help (Make other) first second = absurd (help_against words (codes "make") second.behind make_is_no_help first second.are)
+one_work words Help (Disturb other) first second =
     absurd (help_against words (codes "disturb") second.behind disturb_is_no_help first second.are)
+
+live_is_no_help : IsHelpWord (codes "live") → ⊥
+live_is_no_help = help_key (codes "live") (λ is. cc) (λ is. cc) (λ is. cc)
+
+-- no command without `live` has it for its first word
+pub live_is_no_work : (words behind : List (List ℕ)) (command : Command) → words ≡ codes "live" ∷ behind → NameWork words command → ⊥
+live_is_no_work words behind (Run run) are named = absurd (cc (are, named.are))
+live_is_no_work words behind (Make make) are named = absurd (cc (are, named.are))
+live_is_no_work words behind (Disturb disturb) are named = absurd (cc (are, named.are))
+live_is_no_work words behind Help are named = help_against words (codes "live") behind live_is_no_help named are
+
+-- words name one command at most
+pub names_one : NamesOne
+names_one words one other (inl first) (inl second) = one_work words one other first second
+names_one words one other (inl first) (inr second) = absurd (live_is_no_work words second.behind one second.are first)
+names_one words one other (inr first) (inl second) = absurd (live_is_no_work words first.behind other first.are second)
+names_one words one other (inr first) (inr second) =
+    let same : second.behind ≡ first.behind = cc (first.are, second.are) in
+    one_work first.behind one other first.live.work (subst (λ l. NameWork l other) same second.live.work)
+
+-- where the words behind `live` name no command that can be
+pub unlive : {X : Type 0} (f : X → List ℕ) (words : List X)
+    → ((command : Command) → NameLiveWork (behind_first f words) command → ⊥)
+    → IsFirst f words (codes "live") → IsTaken (map f words) → ⊥
+unlive f words none first (Run run, inl named) = absurd (cc (first (codes "run") named.behind named.are))
+unlive f words none first (Make make, inl named) = absurd (cc (first (codes "make") named.behind named.are))
+unlive f words none first (Disturb disturb, inl named) = absurd (cc (first (codes "disturb") named.behind named.are))
+unlive f words none first (Help, inl named) =
+    other_than (codes "live") named.word live_is_no_help named.asks (first named.word [] named.are)
+unlive f words none first (command, inr named) =
+    none command (subst (λ l. NameLiveWork l command) (moved_behind f words (codes "live") named.behind named.are) named.live)
+
+-- and where words that do not begin with `live` name none
+pub unplain : {X : Type 0} (f : X → List ℕ) (words : List X) → ((command : Command) → NameWork (map f words) command → ⊥)
+    → ((behind : List (List ℕ)) → map f words ≡ codes "live" ∷ behind → ⊥) → IsTaken (map f words) → ⊥
+unplain f words none other (command, inl named) = none command named
+unplain f words none other (command, inr named) = other named.behind named.are
+
+-- words whose command cannot be live
+pub not_live : (words : List (List ℕ)) (command : Command) → NameWork words command → (CanBeLive command → ⊥)
+    → (other : Command) → NameLiveWork words other → ⊥
+not_live words command named never other live = never (subst CanBeLive (one_work words other command live.work named) live.can)
 
 -- words that name no command, or ask how the program is used, ask for no work
 pub no_work : (words : List (List ℕ)) (asked : Option Command) → Ask words asked → AskForNoWork words → (asked ≡ None) ⊎ (asked ≡ Some Help)
 no_work words None asks none = inl refl
 no_work words (Some command) asks (inl none) = absurd (none (command, asks))
-no_work words (Some command) asks (inr help) = inr (ap Some (names_one words command Help asks help))
+no_work words (Some command) asks (inr help) = inr (ap Some (names_one words command Help asks (inl help)))
 
 -- a run that words name relies on nothing more
 pub runnable : {words : List (List ℕ)} {run : RunCommand} → NamesRun words run → IsRunnable run
@@ -204,11 +247,11 @@ runnable {words} {run} named = record {
 pub makeable : {words : List (List ℕ)} {make : MakeCommand} → NamesMake words make → IsRunnable (run_of_make make)
 makeable {words} {make} named = record { individual = refl; mtu = tt; some = named.write.count.some; limit = named.write.count.limit }
 
-named_command : (words : List (List ℕ)) (command : Command) → Names words command → IsCommand command
-named_command words (Run run) named = runnable named
-named_command words (Make make) named = makeable named
-named_command words Help named = tt
-named_command words (Disturb disturb) named = record {
+work_command : (words : List (List ℕ)) (command : Command) → NameWork words command → IsCommand command
+work_command words (Run run) named = runnable named
+work_command words (Make make) named = makeable named
+work_command words Help named = tt
+work_command words (Disturb disturb) named = record {
   run = record {
     individual = named.write.hardware.individual;
     mtu = subst (λ (s : RunSettings). IfSome s.ip_mtu (λ bytes. (576 ≤ bytes) × (bytes ≤ 1500))) (sym named.write.plain) tt;
@@ -219,13 +262,23 @@ named_command words (Disturb disturb) named = record {
   corrupt = named.write.corrupt.limit;
 }
 
-pub asked_command : (words : List (List ℕ)) (asked : Option Command) → IfSome asked (Names words) → IfSome asked IsCommand
-asked_command words None found = tt
-asked_command words (Some command) found = named_command words command found
+named_command : (words : List (List ℕ)) (command : Command) → Names words command → IsCommand command
+named_command words command (inl named) = work_command words command named
+named_command words command (inr named) = work_command named.behind command named.live.work
 
-pub asked_by : (words : List (List ℕ)) (asked : Option Command) → IfSome asked (Names words) → IfNone asked (IsTaken words → ⊥) → Ask words asked
+-- with `live` or without it
+are_names : (words : List (List ℕ)) (asked : Asked) → AreNamed words asked → Names words asked.command
+are_names words asked (inl plain) = inl plain.1
+are_names words asked (inr live) = inr live.1
+
+pub asked_command : (words : List (List ℕ)) (asked : Option Asked) → IfSome asked (AreNamed words) → IfSome (command_asked asked) IsCommand
+asked_command words None found = tt
+asked_command words (Some asked) found = named_command words asked.command (are_names words asked found)
+
+pub asked_by : (words : List (List ℕ)) (asked : Option Asked) → IfSome asked (AreNamed words) → IfNone asked (IsTaken words → ⊥)
+    → Ask words (command_asked asked)
 asked_by words None found refuses = refuses
-asked_by words (Some command) found refuses = found
+asked_by words (Some asked) found refuses = are_names words asked found
 
 mtu_or_default : (value : Option ℕ) → IfSome value (λ bytes. (576 ≤ bytes) × (bytes ≤ 1500))
     → (576 ≤ unwrap_or value 1500) × (unwrap_or value 1500 ≤ 1500)

@@ -1,5 +1,6 @@
 -- The words that the program takes, and what they name.
-use Rattle.std.specs.Prelude.{◌≡◌, ℕ, ◌⊎◌, ⊤, List, [], ◌∷◌, codes}
+use Rattle.std.specs.Prelude.{◌≡◌, ℕ, ◌×◌, ◌⊎◌, ⊤, true, false, List, [], ◌∷◌, Option, option_map, codes}
+use Rattle.host_top.specs.declared.command.Asked.{Asked}
 use Rattle.host_top.specs.declared.command.Command.{Command}
 use Rattle.host_top.specs.declared.command.Command.TheVariants.{Run, Make, Help, Disturb}
 use Rattle.host_top.specs.Disturb.{NamesDisturb, IsDisturbable}
@@ -17,11 +18,43 @@ pub record NameHelp (words : List (List ℕ)) : Type 0 where
   pub asks : IsHelpWord word
 
 -- the words name the command
+abbrev pub NameWork : List (List ℕ) → Command → Type 0
+NameWork words (Run run) = NamesRun words run
+NameWork words (Make make) = NamesMake words make
+NameWork words Help = NameHelp words
+NameWork words (Disturb disturb) = NamesDisturb words disturb
+
+-- the commands whose rows can be printed as they come
+abbrev pub CanBeLive : Command → Type 0
+CanBeLive (Run run) = ⊤
+CanBeLive (Make make) = ⊥
+CanBeLive Help = ⊥
+CanBeLive (Disturb disturb) = ⊤
+
+-- the words name such a command
+pub record NameLiveWork (words : List (List ℕ)) (command : Command) : Type 0 where
+  pub can : CanBeLive command
+  pub work : NameWork words command
+
+-- the words are `live` and those that name such a command
+pub record NameLive (words : List (List ℕ)) (command : Command) : Type 0 where
+  pub behind : List (List ℕ)
+  pub are : words ≡ codes "live" ∷ behind
+  pub live : NameLiveWork behind command
+
+-- the words name the command, and say that it is live or do not
 abbrev pub Names : List (List ℕ) → Command → Type 0
-Names words (Run run) = NamesRun words run
-Names words (Make make) = NamesMake words make
-Names words Help = NameHelp words
-Names words (Disturb disturb) = NamesDisturb words disturb
+Names words command = NameWork words command ⊎ NameLive words command
+
+-- which of the two they do
+abbrev pub AreNamed : List (List ℕ) → Asked → Type 0
+AreNamed words asked =
+    ((asked.is_live ≡ false) × NameWork words asked.command)
+    ⊎ ((asked.is_live ≡ true) × NameLive words asked.command)
+
+-- the command that is asked for
+abbrev pub command_asked : Option Asked → Option Command
+command_asked asked = option_map (λ (asked : Asked). asked.command) asked
 
 -- the words that the program takes: those that name a command
 abbrev pub IsTaken : List (List ℕ) → Type 0

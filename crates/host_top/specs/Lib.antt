@@ -6,6 +6,7 @@ pub mod Generator
 pub mod HostMain
 pub mod MakeWords
 pub mod Making
+pub mod Printed
 pub mod Printing
 pub mod QueryText
 pub mod Ran

@@ -7,6 +7,7 @@ usage_text =
     codes "usage: run HW SEED MAX [mtu=N] [lease=N] [naks=ignore|obey]\n"
     ++ codes "       make SEED COUNT\n"
     ++ codes "       disturb HW SEED MAX FSEED DROP CORRUPT\n"
+    ++ codes "       live COMMAND ...\n"
     ++ codes "       help\n"
 
 -- what the words name

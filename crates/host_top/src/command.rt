@@ -1,6 +1,6 @@
 //! The words of a command.
-ghost use Rattle.std.specs.Prelude.{ℕ, map, string_bytes, IfSome, IfNone};
-ghost use Rattle.host_top.specs.Command.{Names, IsTaken, NamesOne};
+ghost use Rattle.std.specs.Prelude.{◌≡◌, ℕ, true, false, map, string_bytes, IfSome, IfNone};
+ghost use Rattle.host_top.specs.Command.{AreNamed, NameWork, NameLiveWork, CanBeLive, IsTaken, NamesOne};
 ghost use Rattle.host_top.specs.RunWords.{WritesRun, IsCountWord};
 ghost use Rattle.host_top.specs.MakeWords.{WritesMake};
 
@@ -39,10 +39,64 @@ pub struct MakeCommand {
     pub count: u32,
 }
 
-/// The command that the words name.
-pub fn parse(words: &[String]) -> Option<Command>
-    ensures found { IfSome result (Names (map string_bytes words.now)) }
+impl Command {
+    /// Whether its rows can be printed as they come.
+    fn can_be_live(self) -> bool
+        ensures yes { result ≡ true → CanBeLive self }
+        ensures no { result ≡ false → CanBeLive self → ⊥ }
+    {
+        match self {
+            Command::Run(_) | Command::Disturb(_) => true,
+            Command::Make(_) | Command::Help => false,
+        }
+    }
+}
+
+/// A command, and how it is to be done.
+#[derive(Clone, Copy, Debug, PartialEq, Eq)]
+pub struct Asked {
+    pub command: Command,
+    /// Whether each row is printed as soon as its event is answered.
+    pub is_live: bool,
+}
+
+/// What the words ask for.
+pub fn parse(words: &[String]) -> Option<Asked>
+    ensures found { IfSome result (AreNamed (map string_bytes words.now)) }
     ensures refuses { IfNone result (IsTaken (map string_bytes words.now) → ⊥) }
+{
+    let [name, behind @ ..] = words else {
+        return None;
+    };
+    match name.as_bytes() {
+        b"live" => Some(Asked {
+            command: live_of(behind)?,
+            is_live: true,
+        }),
+        _ => Some(Asked {
+            command: command_of(words)?,
+            is_live: false,
+        }),
+    }
+}
+
+/// The command that the words behind `live` name.
+fn live_of(words: &[String]) -> Option<Command>
+    ensures found { IfSome result (NameLiveWork (map string_bytes words.now)) }
+    ensures refuses { IfNone result ((command : Command) → NameLiveWork (map string_bytes words.now) command → ⊥) }
+{
+    let command = command_of(words)?;
+    if command.can_be_live() {
+        Some(command)
+    } else {
+        None
+    }
+}
+
+/// The command that the words name, without `live`.
+fn command_of(words: &[String]) -> Option<Command>
+    ensures found { IfSome result (NameWork (map string_bytes words.now)) }
+    ensures refuses { IfNone result ((command : Command) → NameWork (map string_bytes words.now) command → ⊥) }
 {
     let [name, words @ ..] = words else {
         return None;

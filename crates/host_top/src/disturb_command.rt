@@ -11,8 +11,8 @@ use crate::generator::words_of;
 use crate::running::{config_of, ending_of};
 use crate::setting::RunSettings;
 use crate::word::{address_of, number_of, u32_of};
-use host_disturb::{FaultValues, run_disturbed};
-use net_host::{Report, ScriptSource};
+use host_disturb::{FaultValues, watch_disturbed};
+use net_host::{Report, ScriptSource, Watcher};
 use net_wire::{Duration, NoMemory};
 use phy_layers::PcapSink;
 use std::alloc::Global;
@@ -63,22 +63,32 @@ fn chance_of(word: &[u8]) -> Option<u8>
     Some(number as u8)
 }
 
-/// Runs the host on what comes of the script over the bad link.
-pub(crate) fn run_over_bad_link<S: ScriptSource, C: PcapSink>(
+/// Runs the host on what comes of the script over the bad link, and tells a watcher of each row.
+pub(crate) fn run_over_bad_link<S: ScriptSource, C: PcapSink, W: Watcher>(
     alloc: Global,
     command: &DisturbCommand,
     script: &mut S,
     capture: &mut C,
     report: &mut Report,
+    watcher: &mut W,
 ) -> Ending
     requires empty { report.old ≡ [] }
     requires runnable { IsDisturbable command.now }
-    ensures { DisturbedTo command.now
+    ensures ran { DisturbedTo command.now
         (outside_of S.ScriptSource C.ByteSink script.old capture.old)
         (outside_of S.ScriptSource C.ByteSink script.new capture.new) report.new result }
+    ensures seen { W.sees watcher.old report.new watcher.new }
 {
     match words_of(alloc, command.run.seed, command.run.max_events as usize * 3) {
-        Ok(words) => disturb_script(alloc, command, words.as_slice(), script, capture, report),
+        Ok(words) => disturb_script(
+            alloc,
+            command,
+            words.as_slice(),
+            script,
+            capture,
+            report,
+            watcher,
+        ),
         Err(NoMemory) => Ending::NoMemory,
     }
 }
@@ -98,24 +108,26 @@ fn faults_of(command: &DisturbCommand) -> FaultValues
 }
 
 /// Runs the host on a script, by the words of its events.
-fn disturb_script<S: ScriptSource, C: PcapSink>(
+fn disturb_script<S: ScriptSource, C: PcapSink, W: Watcher>(
     alloc: Global,
     command: &DisturbCommand,
     words: &[u32],
     script: &mut S,
     capture: &mut C,
     report: &mut Report,
+    watcher: &mut W,
 ) -> Ending
     requires empty { report.old ≡ [] }
     requires runnable { IsDisturbable command.now }
     requires words { words.now ≡ event_words command.now.run }
-    ensures { DisturbedTo command.now
+    ensures ran { DisturbedTo command.now
         (outside_of S.ScriptSource C.ByteSink script.old capture.old)
         (outside_of S.ScriptSource C.ByteSink script.new capture.new) report.new result }
+    ensures seen { W.sees watcher.old report.new watcher.new }
 {
     let config = config_of(&command.run);
     let faults = faults_of(command);
-    match run_disturbed(
+    match watch_disturbed(
         alloc,
         script,
         capture,
@@ -124,6 +136,7 @@ fn disturb_script<S: ScriptSource, C: PcapSink>(
         command.run.max_events,
         &faults,
         report,
+        watcher,
     ) {
         Ok(()) => Ending::Done,
         Err(error) => ending_of(error),

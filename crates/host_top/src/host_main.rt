@@ -1,9 +1,9 @@
 //! The program as a function: words and a script in; a capture, a report and its text out.
-ghost use Rattle.std.specs.Prelude.{◌≡◌, ℕ, List, [], ◌++◌, ◌⊎◌, Option, Some, None, IfSome, map, string_bytes};
+ghost use Rattle.std.specs.Prelude.{◌≡◌, ℕ, ◌<◌, ◌^◌, length, List, [], ◌++◌, ◌⊎◌, Option, Some, None, IfSome, map, string_bytes};
 ghost use Rattle.wire_base.specs.Causes.{IsRisen};
 ghost use Rattle.phy_layers.specs.Sink.{Took};
 ghost use Rattle.net_host.specs.Outside.{outside_of};
-ghost use Rattle.host_top.specs.Command.{IsTaken, IsCommand};
+ghost use Rattle.host_top.specs.Command.{IsTaken, IsCommand, command_asked};
 ghost use Rattle.host_top.specs.RunWords.{IsRunnable};
 ghost use Rattle.host_top.specs.MakeWords.{run_of_make};
 ghost use Rattle.host_top.specs.Disturb.{IsDisturbable, DisturbedTo};
@@ -16,17 +16,19 @@ ghost use Rattle.host_top.specs.Ran.{RanTo};
 ghost use Rattle.host_top.specs.ReportText.{report_bytes};
 ghost use Rattle.host_top.specs.Status.{ComesExactly};
 ghost use Rattle.host_top.specs.Summary.{summary_text};
+ghost use Rattle.host_top.specs.Text.{Puts};
 ghost use Rattle.host_top.specs.Usage.{help_text};
 
-use crate::command::{Command, MakeCommand, RunCommand, parse};
+use crate::command::{Asked, Command, MakeCommand, RunCommand, parse};
 use crate::disturb_command::{DisturbCommand, run_over_bad_link};
 use crate::ending::{Ending, Finish, put_last_line};
+use crate::printer::RowPrinter;
 use crate::report_text::report_text;
 use crate::running::{run_made, run_named};
 use crate::summary::put_summary;
 use crate::text::flush;
 use crate::usage::put_help;
-use net_host::{Report, ScriptSource};
+use net_host::{Report, ScriptSource, Silent};
 use phy_layers::{ByteSink, PcapSink, SinkError};
 use std::alloc::Global;
 
@@ -81,36 +83,61 @@ pub fn host_main<S: ScriptSource, C: PcapSink, O: ByteSink>(
         (outside_of S.ScriptSource C.ByteSink script.new capture.new) report.new ending text
         × Prints O.ByteSink text ending result out.old out.new }
 {
-    let command = parse(args);
-    let finish = obey(alloc, command, script, capture, out, report);
+    let asked = parse(args);
+    let finish = obey(alloc, asked, script, capture, out, report);
     finish.ending.status_after(finish.answer)
 }
 
 /// Does what was asked for, and prints what came of it.
 fn obey<S: ScriptSource, C: PcapSink, O: ByteSink>(
     alloc: Global,
-    command: Option<Command>,
+    asked: Option<Asked>,
     script: &mut S,
     capture: &mut C,
     out: &mut O,
     report: &mut Report,
 ) -> Finish
     requires empty { report.old ≡ [] }
-    requires command { IfSome command IsCommand }
-    ensures ended { Finishes O.ByteSink command (outside_of S.ScriptSource C.ByteSink script.old capture.old)
+    requires command { IfSome (command_asked asked) IsCommand }
+    ensures ended { Finishes O.ByteSink (command_asked asked) (outside_of S.ScriptSource C.ByteSink script.old capture.old)
         (outside_of S.ScriptSource C.ByteSink script.new capture.new) report.new result out.old out.new }
-    ensures untouched { (command ≡ None) ⊎ (command ≡ Some Command.Help)
+    ensures untouched { (command_asked asked ≡ None) ⊎ (command_asked asked ≡ Some Command.Help)
         → (script.new ≡ script.old) × (capture.new ≡ capture.old) × (report.new ≡ []) }
-    ensures unread { (make : MakeCommand) → command ≡ Some (Command.Make make) → script.new ≡ script.old }
+    ensures unread { (make : MakeCommand) → command_asked asked ≡ Some (Command.Make make) → script.new ≡ script.old }
 {
-    match command {
-        Some(Command::Run(run)) => obey_run(alloc, &run, script, capture, out, report),
-        Some(Command::Make(make)) => obey_make(alloc, &make, capture, out, report),
-        Some(Command::Help) => obey_help(out),
-        Some(Command::Disturb(disturb)) => {
-            obey_disturb(alloc, &disturb, script, capture, out, report)
+    match asked {
+        Some(Asked { command, is_live }) => {
+            obey_command(alloc, command, is_live, script, capture, out, report)
         }
         None => refuse(out),
+    }
+}
+
+/// Does a command, and prints what came of it.
+fn obey_command<S: ScriptSource, C: PcapSink, O: ByteSink>(
+    alloc: Global,
+    command: Command,
+    is_live: bool,
+    script: &mut S,
+    capture: &mut C,
+    out: &mut O,
+    report: &mut Report,
+) -> Finish
+    requires empty { report.old ≡ [] }
+    requires command { IsCommand command }
+    ensures ended { Finishes O.ByteSink (Some command) (outside_of S.ScriptSource C.ByteSink script.old capture.old)
+        (outside_of S.ScriptSource C.ByteSink script.new capture.new) report.new result out.old out.new }
+    ensures untouched { command ≡ Command.Help
+        → (script.new ≡ script.old) × (capture.new ≡ capture.old) × (report.new ≡ []) }
+    ensures unread { (make : MakeCommand) → command ≡ Command.Make make → script.new ≡ script.old }
+{
+    match command {
+        Command::Run(run) => obey_run(alloc, &run, is_live, script, capture, out, report),
+        Command::Make(make) => obey_make(alloc, &make, capture, out, report),
+        Command::Help => obey_help(out),
+        Command::Disturb(disturb) => {
+            obey_disturb(alloc, &disturb, is_live, script, capture, out, report)
+        }
     }
 }
 
@@ -118,6 +145,7 @@ fn obey<S: ScriptSource, C: PcapSink, O: ByteSink>(
 fn obey_run<S: ScriptSource, C: PcapSink, O: ByteSink>(
     alloc: Global,
     command: &RunCommand,
+    is_live: bool,
     script: &mut S,
     capture: &mut C,
     out: &mut O,
@@ -130,9 +158,16 @@ fn obey_run<S: ScriptSource, C: PcapSink, O: ByteSink>(
     ensures took { Took O.bytes O.faults O.grows result.answer
         (report_bytes report.new ++ last_line result.ending) out.old out.new }
 {
-    let ending = run_named(alloc, command, script, capture, report);
-    let answer = print_run(report, ending, out);
-    Finish { ending, answer }
+    if is_live {
+        let mut printer = RowPrinter::new(out);
+        let ending = run_named(alloc, command, script, capture, report, &mut printer);
+        let answer = printer.answer;
+        end_rows(report, ending, answer, out)
+    } else {
+        let ending = run_named(alloc, command, script, capture, report, &mut Silent);
+        let answer = print_run(report, ending, out);
+        Finish { ending, answer }
+    }
 }
 
 /// Runs the host on a script that is made, and prints the summary of the report.
@@ -158,6 +193,7 @@ fn obey_make<C: PcapSink, O: ByteSink>(
 fn obey_disturb<S: ScriptSource, C: PcapSink, O: ByteSink>(
     alloc: Global,
     command: &DisturbCommand,
+    is_live: bool,
     script: &mut S,
     capture: &mut C,
     out: &mut O,
@@ -170,9 +206,16 @@ fn obey_disturb<S: ScriptSource, C: PcapSink, O: ByteSink>(
     ensures took { Took O.bytes O.faults O.grows result.answer
         (report_bytes report.new ++ last_line result.ending) out.old out.new }
 {
-    let ending = run_over_bad_link(alloc, command, script, capture, report);
-    let answer = print_run(report, ending, out);
-    Finish { ending, answer }
+    if is_live {
+        let mut printer = RowPrinter::new(out);
+        let ending = run_over_bad_link(alloc, command, script, capture, report, &mut printer);
+        let answer = printer.answer;
+        end_rows(report, ending, answer, out)
+    } else {
+        let ending = run_over_bad_link(alloc, command, script, capture, report, &mut Silent);
+        let answer = print_run(report, ending, out);
+        Finish { ending, answer }
+    }
 }
 
 /// Prints how the program is used.
@@ -195,6 +238,24 @@ fn refuse<O: ByteSink>(out: &mut O) -> Finish
         ending: Ending::Refused,
         answer: print_line(Ending::Refused, out),
     }
+}
+
+/// Ends a report whose rows were printed as they came.
+fn end_rows<O: ByteSink>(
+    report: &Report,
+    ending: Ending,
+    printed: Result<(), SinkError>,
+    out: &mut O,
+) -> Finish
+    ensures ending { result.ending ≡ ending }
+    ensures few { length report.now < 2 ^ 64 }
+    ensures puts { Puts O.bytes O.faults O.grows printed result.answer (last_line ending) out.old out.new }
+{
+    let _rows = report.rows().len();
+    let mut answer = printed;
+    put_last_line(out, &mut answer, ending);
+    flush(out, &mut answer);
+    Finish { ending, answer }
 }
 
 fn print_run<O: ByteSink>(report: &Report, ending: Ending, out: &mut O) -> Result<(), SinkError>

@@ -12,6 +12,7 @@ pub mod generator;
 pub mod host_main;
 pub mod lazy_file;
 pub mod output;
+mod printer;
 pub mod query_text;
 pub mod report_text;
 mod running;

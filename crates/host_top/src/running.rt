@@ -16,27 +16,40 @@ use crate::generator::words_of;
 use crate::setting::RunSettings;
 use dhcp_client::RetryConfig;
 use made_script::{HOST_STATION, make_script};
-use net_host::{HostConfig, HostValues, Report, RunError, ScriptSource, SureSource, run};
+use net_host::{
+    Direct, HostConfig, HostValues, Report, RunError, ScriptSource, Silent, SureSource, Watcher,
+    run_over,
+};
 use net_wire::{Duration, NoMemory};
 use phy_layers::PcapSink;
 use std::alloc::Global;
 
-/// Runs the host on the script.
-pub(crate) fn run_named<S: ScriptSource, C: PcapSink>(
+/// Runs the host on the script, and tells a watcher of each row.
+pub(crate) fn run_named<S: ScriptSource, C: PcapSink, W: Watcher>(
     alloc: Global,
     command: &RunCommand,
     script: &mut S,
     capture: &mut C,
     report: &mut Report,
+    watcher: &mut W,
 ) -> Ending
     requires empty { report.old ≡ [] }
     requires runnable { IsRunnable command.now }
-    ensures { RanTo command.now
+    ensures ran { RanTo command.now
         (outside_of S.ScriptSource C.ByteSink script.old capture.old)
         (outside_of S.ScriptSource C.ByteSink script.new capture.new) report.new result }
+    ensures seen { W.sees watcher.old report.new watcher.new }
 {
     match words_of(alloc, command.seed, command.max_events as usize * 3) {
-        Ok(words) => run_script(alloc, command, words.as_slice(), script, capture, report),
+        Ok(words) => run_script(
+            alloc,
+            command,
+            words.as_slice(),
+            script,
+            capture,
+            report,
+            watcher,
+        ),
         Err(NoMemory) => Ending::NoMemory,
     }
 }
@@ -61,7 +74,15 @@ pub(crate) fn run_made<C: PcapSink>(
     };
     let run = run_of_make(command);
     let mut script = SureSource::new(bytes);
-    run_script(alloc, &run, words.as_slice(), &mut script, capture, report)
+    run_script(
+        alloc,
+        &run,
+        words.as_slice(),
+        &mut script,
+        capture,
+        report,
+        &mut Silent,
+    )
 }
 
 /// The run of a script that is made.
@@ -77,30 +98,34 @@ fn run_of_make(command: &MakeCommand) -> RunCommand
 }
 
 /// Runs the host on a script, by the words of its events.
-fn run_script<S: ScriptSource, C: PcapSink>(
+fn run_script<S: ScriptSource, C: PcapSink, W: Watcher>(
     alloc: Global,
     command: &RunCommand,
     words: &[u32],
     script: &mut S,
     capture: &mut C,
     report: &mut Report,
+    watcher: &mut W,
 ) -> Ending
     requires empty { report.old ≡ [] }
     requires runnable { IsRunnable command.now }
     requires words { words.now ≡ event_words command.now }
-    ensures { RanTo command.now
+    ensures ran { RanTo command.now
         (outside_of S.ScriptSource C.ByteSink script.old capture.old)
         (outside_of S.ScriptSource C.ByteSink script.new capture.new) report.new result }
+    ensures seen { W.sees watcher.old report.new watcher.new }
 {
     let config = config_of(command);
-    match run(
+    match run_over(
         alloc,
         script,
+        &mut Direct,
         capture,
         &config,
         words,
         command.max_events,
         report,
+        watcher,
     ) {
         Ok(()) => Ending::Done,
         Err(error) => ending_of(error),

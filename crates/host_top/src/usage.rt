@@ -12,7 +12,7 @@ pub fn put_usage<O: ByteSink>(out: &mut O, answer: &mut Result<(), SinkError>)
     put(
         out,
         answer,
-        b"usage: run HW SEED MAX [mtu=N] [lease=N] [naks=ignore|obey]\n       make SEED COUNT\n       disturb HW SEED MAX FSEED DROP CORRUPT\n       help\n",
+        b"usage: run HW SEED MAX [mtu=N] [lease=N] [naks=ignore|obey]\n       make SEED COUNT\n       disturb HW SEED MAX FSEED DROP CORRUPT\n       live COMMAND ...\n       help\n",
     );
 }
 

@@ -4,27 +4,27 @@ use Rattle.host_top.proofs.StatusLemmas.{says}
 use Rattle.host_top.proofs.host_main.host_main.Goals as goal
 
 pub returns-clause-refuses : goal.returns-clause-refuses
-returns-clause-refuses g c = refused_exactly (record { asks = asked_by _ _ c.parse-command.ensures.found c.parse-command.ensures.refuses; ended = c.obey-finish.ensures.ended.ended; status = c.status_after.ensures })
+returns-clause-refuses g c = refused_exactly (record { asks = asked_by _ _ c.parse-asked.ensures.found c.parse-asked.ensures.refuses; ended = c.obey-finish.ensures.ended.ended; status = c.status_after.ensures })
 
 pub returns-clause-done : goal.returns-clause-done
-returns-clause-done g c = (says (record { asks = asked_by _ _ c.parse-command.ensures.found c.parse-command.ensures.refuses; ended = c.obey-finish.ensures.ended.ended; status = c.status_after.ensures })).done
+returns-clause-done g c = (says (record { asks = asked_by _ _ c.parse-asked.ensures.found c.parse-asked.ensures.refuses; ended = c.obey-finish.ensures.ended.ended; status = c.status_after.ensures })).done
 
 pub returns-clause-broken : goal.returns-clause-broken
-returns-clause-broken g c = (says (record { asks = asked_by _ _ c.parse-command.ensures.found c.parse-command.ensures.refuses; ended = c.obey-finish.ensures.ended.ended; status = c.status_after.ensures })).broken
+returns-clause-broken g c = (says (record { asks = asked_by _ _ c.parse-asked.ensures.found c.parse-asked.ensures.refuses; ended = c.obey-finish.ensures.ended.ended; status = c.status_after.ensures })).broken
 
 pub returns-clause-limit : goal.returns-clause-limit
-returns-clause-limit g c = (says (record { asks = asked_by _ _ c.parse-command.ensures.found c.parse-command.ensures.refuses; ended = c.obey-finish.ensures.ended.ended; status = c.status_after.ensures })).limit
+returns-clause-limit g c = (says (record { asks = asked_by _ _ c.parse-asked.ensures.found c.parse-asked.ensures.refuses; ended = c.obey-finish.ensures.ended.ended; status = c.status_after.ensures })).limit
 
 pub returns-clause-read : goal.returns-clause-read
-returns-clause-read g c = (says (record { asks = asked_by _ _ c.parse-command.ensures.found c.parse-command.ensures.refuses; ended = c.obey-finish.ensures.ended.ended; status = c.status_after.ensures })).read
+returns-clause-read g c = (says (record { asks = asked_by _ _ c.parse-asked.ensures.found c.parse-asked.ensures.refuses; ended = c.obey-finish.ensures.ended.ended; status = c.status_after.ensures })).read
 
 pub returns-clause-capture : goal.returns-clause-capture
-returns-clause-capture g c = (says (record { asks = asked_by _ _ c.parse-command.ensures.found c.parse-command.ensures.refuses; ended = c.obey-finish.ensures.ended.ended; status = c.status_after.ensures })).capture
+returns-clause-capture g c = (says (record { asks = asked_by _ _ c.parse-asked.ensures.found c.parse-asked.ensures.refuses; ended = c.obey-finish.ensures.ended.ended; status = c.status_after.ensures })).capture
 
 pub returns-clause-complete : goal.returns-clause-complete
 returns-clause-complete g c = λ taken read capture output.
-    complete_named (record { asks = asked_by _ _ c.parse-command.ensures.found c.parse-command.ensures.refuses; ended = c.obey-finish.ensures.ended.ended; status = c.status_after.ensures }) taken read capture
+    complete_named (record { asks = asked_by _ _ c.parse-asked.ensures.found c.parse-asked.ensures.refuses; ended = c.obey-finish.ensures.ended.ended; status = c.status_after.ensures }) taken read capture
     (λ faulted. output (c.obey-finish.ensures.ended.took.fault faulted))
 
 pub obey-finish-requires-clause-command : goal.obey-finish-requires-clause-command
-obey-finish-requires-clause-command g c = asked_command _ _ c.parse-command.ensures.found
+obey-finish-requires-clause-command g c = asked_command _ _ c.parse-asked.ensures.found

@@ -1,7 +1,7 @@
 use Rattle.std.proofs.Common.{rules}
 use Rattle.std.specs.String.{string_bytes}
 use Rattle.host_top.proofs.CommandLemmas.{unwritten, unmade, undisturbed}
-use Rattle.host_top.proofs.command.parse.Goals as goal
+use Rattle.host_top.proofs.command.command_of.Goals as goal
 
 pub returns-in_err-run_of-in-run-clause-refuses : goal.returns-in_err-run_of-in-run-clause-refuses
 returns-in_err-run_of-in-run-clause-refuses c =

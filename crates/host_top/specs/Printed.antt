@@ -1,0 +1,35 @@
+-- What a printer of rows hands to its output.
+use mathlib.Core.Path.{subst, sym}
+use mathlib.Core.List.{append-nil}
+use Rattle.std.specs.Prelude.{◌≡◌, ℕ, ◌+◌, ◌<◌, ◌^◌, Bool, List, [], ◌++◌, length, Option, Result, refl}
+use Rattle.std.specs.List.{flat_map, enumerate_from}
+use Rattle.phy_layers.specs.declared.byte_sink.ByteSink as byte_sink
+use Rattle.phy_layers.specs.declared.byte_sink.SinkError.{SinkError}
+use Rattle.phy_layers.specs.Sink.{Took}
+use Rattle.net_host.specs.declared.report.Row.{Row}
+use Rattle.host_top.specs.declared.printer.RowPrinter.{RowPrinter}
+use Rattle.host_top.specs.ReportText.{row_text}
+use Rattle.host_top.specs.Text.{Puts}
+
+-- The printer has the output that it had at first, and counted the rows and handed it their text, where there are not
+-- more than it can count.
+pub record PrintsRows {O : Type 0} (sink : byte_sink.Ghosts O) (first : RowPrinter O) (rows : List Row)
+    (last : RowPrinter O) : Type 0 where
+  pub same : last.out.ghost_name ≡ first.out.ghost_name
+  pub counted : first.number + length rows < 2 ^ 64 → last.number ≡ first.number + length rows
+  pub puts : first.number + length rows < 2 ^ 64
+      → Puts sink.bytes sink.faults sink.grows first.answer last.answer
+      (flat_map row_text (enumerate_from first.number rows)) first.out.now last.out.now
+
+-- nothing is handed on
+puts_nothing : {S : Type 0} {bytes : S → Option (List ℕ)} {faults : S → ℕ} {grows : Bool} {answer : Result (Unit {0}) SinkError}
+    {now : S} → Puts bytes faults grows answer answer [] now now
+puts_nothing {S} {bytes} {faults} {grows} {answer} {now} = record {
+  goes_on = λ start handed earlier.
+      let P : List ℕ → Type 0 = λ all. Took bytes faults grows answer all start now in
+      subst P (sym (append-nil handed)) earlier;
+}
+
+-- and of no rows nothing
+pub prints_no_row : {O : Type 0} (sink : byte_sink.Ghosts O) (printer : RowPrinter O) → PrintsRows sink printer [] printer
+prints_no_row {O} sink printer = record { same = refl; counted = λ few. refl; puts = λ few. puts_nothing }
