@@ -6,6 +6,7 @@ pub mod HexLemmas
 pub mod JoinLemmas
 pub mod MakingLemmas
 pub mod OneSettingLemmas
+pub mod PrintedLemmas
 pub mod RanLemmas
 pub mod SettingLemmas
 pub mod SettingWordLemmas
