@@ -6,6 +6,7 @@ pub mod ArrivedLemmas
 pub mod CompleteLemmas
 pub mod ConfigLemmas
 pub mod Contexts
+pub mod CountedLemmas
 pub mod CutLemmas
 pub mod DatagramPartLemmas
 pub mod DissectedLemmas

@@ -1,5 +1,5 @@
 -- What a link makes of the events of a run, one event more.
-use Rattle.std.proofs.Common.{◌≡◌, ℕ, ℤ, pos, List, [], ◌∷◌, ◌++◌, Option, ap, sym, subst, ◌∙◌, refl, append_assoc, append-nil}
+use Rattle.std.proofs.Common.{◌≡◌, ℕ, ℤ, pos, List, [], ◌∷◌, ◌++◌, Option, ap, sym, subst, ◌∙◌, append_assoc}
 use Rattle.phy_layers.specs.PcapBytes.{epoch_micros}
 use Rattle.host_model.specs.Script.{Event}
 use Rattle.script_reader.specs.ReaderState.{ReaderState}

@@ -7,7 +7,7 @@ use Rattle.phy_layers.proofs.SinkLemmas.{Appends-then}
 use Rattle.host_model.specs.Script.{Event, SpellsAll, IsNext, AreInOrder, last_time}
 use Rattle.host_model.specs.History.{Entry}
 use Rattle.host_model.specs.declared.words.EventWords.{EventWords}
-use Rattle.host_model.specs.Chronicle.{entry_at, history, words_at}
+use Rattle.host_model.specs.Chronicle.{history, words_at}
 use Rattle.host_model.proofs.ChronicleLemmas.{history_from-push, length-history_from}
 use Rattle.net_host.specs.declared.host.Host.{Host}
 use Rattle.net_host.specs.declared.report.Row.{Row}

@@ -1,5 +1,5 @@
 -- An event adds one row to a report, or none.
-use Rattle.std.proofs.Common.{◌≡◌, ◌⊎◌, inl, inr, ⊎_elim, ℤ, List, Result, Ok, Err, OnOk, IfErr, ap}
+use Rattle.std.proofs.Common.{◌≡◌, ◌⊎◌, inl, inr, ⊎_elim, ℤ, Result, Ok, Err, OnOk, IfErr, ap}
 use Rattle.std.specs.Result.{IsErrOf}
 use Rattle.host_model.specs.declared.words.EventWords.{EventWords}
 use Rattle.script_reader.specs.declared.script.ScriptEvent.{ScriptEvent}

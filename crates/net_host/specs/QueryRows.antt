@@ -56,3 +56,8 @@ abbrev pub RowsHaveOneLineEach : Type 0
 RowsHaveOneLineEach = (settings : Settings) (words : List ℕ) (events : List Event) (rows : List Row)
     → AreRows settings words events rows
     → (number : ℕ) → HasOneLine settings (history settings words events) rows number
+
+-- At most four frames of the rows are marked as those of one query to one place, and no number has two lines.
+pub record CountsQueries (rows : List Row) : Type 0 where
+  pub few : (number place : ℕ) → count_by (is_sent_to number place) (sent_in rows) ≤ 4
+  pub one_line : (number : ℕ) → line_count rows number ≤ 1

@@ -15,6 +15,7 @@ ghost use Rattle.net_host.specs.Polling.{IsReady};
 ghost use Rattle.dns_client.specs.Client.{client_of};
 ghost use Rattle.net_host.specs.QueryPolling.{AreLent};
 ghost use Rattle.net_host.specs.QueryReady.{HoldsQueries};
+ghost use Rattle.net_host.specs.QueryRows.{CountsQueries};
 ghost use Rattle.net_host.specs.Rows.{kind_of, IsNoteFor};
 ghost use Rattle.net_host.specs.Outside.{outside_of, IsQuiet};
 ghost use Rattle.net_host.specs.Run.{task_of, task_over, Finished, Leaves, HasCause, Completes};
@@ -280,6 +281,8 @@ pub fn run<S: ScriptSource, C: PcapSink>(
     ensures complete { Completes (task_of config.now words.now max_events)
         (outside_of S.ScriptSource C.ByteSink source.old capture.old)
         (outside_of S.ScriptSource C.ByteSink source.new capture.new) result }
+    // Whatever became of it: at most four frames of one query to one place of the list of name servers, and no query with two lines.
+    ensures queries { CountsQueries report.new }
 {
     run_over(
         alloc,

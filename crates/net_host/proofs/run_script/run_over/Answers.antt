@@ -104,7 +104,7 @@ returns-in_default-words_at-clause-leaves g c =
     let now = c.loop-count in
     ran_out (task_over (g.L.Link.makes c.args.link.now (told_by c.args.config.now c.args.words.now)) c.args.config.now c.args.words.now c.args.max_events)
     (outside_of g.S.ScriptSource g.C.ByteSink c.args.source.now c.args.capture.now) (outside_of g.S.ScriptSource g.C.ByteSink now.source now.capture)
-    (outside_of g.S.ScriptSource g.C.ByteSink c.next_head.new.source now.capture) now.reader c.next_head.new.self now.host now.report
+    (outside_of g.S.ScriptSource g.C.ByteSink c.next_head.new.source now.capture) now.reader c.pass-met.new.self now.host now.report
     c.event-at.result.0 c.event-at.result.1 now.invariant.progress
     (met_event c.args.max_events now.reader c.next_head.new.self c.pass-met.new.self (g.S.ScriptSource.left now.source)
     (g.S.ScriptSource.left c.next_head.new.source) (g.L.Link.makes now.link) (g.L.Link.makes c.pass-met.new.link) c.last_id-id.result
@@ -127,8 +127,8 @@ returns-in_default-words_at-clause-complete g c =
     (outside_of g.S.ScriptSource g.C.ByteSink c.args.source.now c.args.capture.now)
     (outside_of g.S.ScriptSource g.C.ByteSink c.next_head.new.source c.loop-count.capture) (Err Words) (returns-in_default-words_at-clause-cause g c)
 
-pub take_event-requires-clause-can : goal.take_event-requires-clause-can
-take_event-requires-clause-can g c =
+pub take_event-taken-requires-clause-can : goal.take_event-taken-requires-clause-can
+take_event-taken-requires-clause-can g c =
     let now = c.loop-count in
     let meets = met_event c.args.max_events now.reader c.next_head.new.self c.pass-met.new.self (g.S.ScriptSource.left now.source)
     (g.S.ScriptSource.left c.next_head.new.source) (g.L.Link.makes now.link) (g.L.Link.makes c.pass-met.new.link) c.last_id-id.result
@@ -162,11 +162,11 @@ returns-in_err-taken-clause-leaves g c =
     rw (refused.1, refused.2)
     (⊎_elim
     (λ (is_sink : error ≡ Sink). subst P (sym is_sink)
-    (row_leaves task before here after now.reader c.next_head.new.self now.host c.take_event-taken.new.host now.report c.take_event-taken.new.report
+    (row_leaves task before here after now.reader c.pass-met.new.self now.host c.take_event-taken.new.host now.report c.take_event-taken.new.report
     c.event-at.result.0 c.event-at.result.1 c.in-Some-words_at.drawn now.invariant.progress c.new-host.ensures.runs word enough meets (λ before agrees. sym (c.last_id-id.ensures c.args.config.now before agrees))
     ((rw c.in_err-taken.was at c.take_event-taken.ensures.sink) (ap (λ e. Err e) is_sink))))
     (λ (is_memory : error ≡ NoMemory). subst P (sym is_memory)
-    (event_leaves task before here after now.reader c.next_head.new.self now.host c.take_event-taken.new.host now.report c.take_event-taken.new.report
+    (event_leaves task before here after now.reader c.pass-met.new.self now.host c.take_event-taken.new.host now.report c.take_event-taken.new.report
     c.event-at.result.0 c.event-at.result.1 c.in-Some-words_at.drawn now.invariant.progress c.new-host.ensures.runs word enough meets (λ before agrees. sym (c.last_id-id.ensures c.args.config.now before agrees))
     ((rw c.in_err-taken.was at c.take_event-taken.ensures.memory) (ap (λ e. Err e) is_memory))))
     (rw c.in_err-taken.was at c.take_event-taken.ensures.cause))
@@ -178,7 +178,7 @@ returns-in_err-taken-clause-seen g c =
     (standing now.host (g.C.ByteSink.bytes now.capture) now.report)
     (standing c.take_event-taken.new.host (g.C.ByteSink.bytes c.take_event-taken.new.capture) c.take_event-taken.new.report)
     c.take_event-taken.result c.take_event-taken.ensures.ok c.take_event-taken.ensures.cause c.take_event-taken.ensures.sink c.take_event-taken.ensures.memory in
-    c.tell.ensures c.args.watcher.now now.report (sym c.len-before.ensures) added now.invariant.seen
+    c.tell.ensures c.args.watcher.now now.report (ap length (sym c.rows-before.ensures)) added now.invariant.seen
 
 pub loop-count-preserved : goal.loop-count-preserved
 loop-count-preserved g c =
@@ -201,10 +201,10 @@ loop-count-preserved g c =
     (standing c.take_event-taken.new.host (g.C.ByteSink.bytes c.take_event-taken.new.capture) c.take_event-taken.new.report)
     c.take_event-taken.result c.take_event-taken.ensures.ok c.take_event-taken.ensures.cause c.take_event-taken.ensures.sink c.take_event-taken.ensures.memory in
     record {
-      progress = goes_on task before here after now.reader c.next_head.new.self now.host c.take_event-taken.new.host now.report c.take_event-taken.new.report
+      progress = goes_on task before here after now.reader c.pass-met.new.self now.host c.take_event-taken.new.host now.report c.take_event-taken.new.report
           c.event-at.result.0 c.event-at.result.1 c.in-Some-words_at.drawn now.invariant.progress c.new-host.ensures.runs word
           (omega (arith, found.1, now.invariant.counted)) meets (λ before agrees. sym (c.last_id-id.ensures c.args.config.now before agrees)) (rw c.in_ok-taken.was at c.take_event-taken.ensures.ok);
-      seen = c.tell.ensures c.args.watcher.now now.report (sym c.len-before.ensures) added now.invariant.seen;
+      seen = c.tell.ensures c.args.watcher.now now.report (ap length (sym c.rows-before.ensures)) added now.invariant.seen;
       quiet = record {
         source = c.in_ok-head.ensures.quiet (λ is. cc) ∙ now.invariant.quiet.source;
         capture = (rw c.in_ok-taken.was at c.take_event-taken.ensures.quiet) (λ is. cc) ∙ now.invariant.quiet.capture;
