@@ -4,7 +4,9 @@ use Rattle.std.specs.Int.{to_be_bytes, w16}
 use Rattle.host_model.specs.Classes.{IsScript}
 use Rattle.host_model.specs.Script.{Arrival, Tick, Reset, Frame, Query, Event, SpellsArrival, IsArrival, head_with, Spells, SpellsAll, IsNext, AreInOrder}
 use Rattle.phy_layers.specs.FaultLaw.{DifferInOneBit}
-use Rattle.host_disturb.proofs.MetLemmas.{number_met}
+use Rattle.host_disturb.proofs.MetLemmas.{are_met, number_met}
+use Rattle.host_disturb.specs.declared.fault_values.FaultValues.{FaultValues}
+use Rattle.host_disturb.specs.Disturbed.{disturbed, settings_for, fresh_state}
 use Rattle.host_disturb.specs.Met.{MayBring, AreMet}
 
 -- a frame that passed is as long as it was
@@ -37,6 +39,11 @@ in_order_met last (event ∷ events) (first ∷ rest) are in_order =
     } in
     let P : ℕ → Type 0 = λ at. AreInOrder at rest in
     (next, subst P (sym are.0.time) (in_order_met event.at events rest are.1 in_order.1))
+
+-- what comes of events in order is in order
+pub keeps_order : (faults : FaultValues) (events : List Event) → AreInOrder 0 events → AreInOrder 0 (disturbed faults events)
+keeps_order faults events in_order =
+    in_order_met 0 events (disturbed faults events) (are_met (settings_for faults) (fresh_state faults.seed) events) in_order
 
 -- A dropped frame is spelled as a tick, and one that passed with its own length. All else is spelled as it was.
 spelled_met : (arrival met : Arrival) (kind : ℕ) (rest : List ℕ) → MayBring arrival met

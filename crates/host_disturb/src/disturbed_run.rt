@@ -1,6 +1,7 @@
 //! A run over a bad link.
 ghost use Rattle.std.specs.Prelude.{◌≡◌, ◌≤◌, [], IfErr, OnOk};
 ghost use Rattle.net_host.specs.Outside.{outside_of, IsQuiet};
+ghost use Rattle.net_host.specs.QueryRows.{CountsQueries};
 ghost use Rattle.net_host.specs.Run.{task_over, Finished, Leaves, HasCause, Completes};
 ghost use Rattle.host_disturb.specs.Disturbed.{disturbed};
 
@@ -47,6 +48,8 @@ pub fn run_disturbed<S: ScriptSource, C: PcapSink>(
     ensures complete { Completes (task_over (disturbed faults.now) config.now words.now max_events)
         (outside_of S.ScriptSource C.ByteSink source.old capture.old)
         (outside_of S.ScriptSource C.ByteSink source.new capture.new) result }
+    // Whatever became of it: at most four frames of one query to one place of the list of name servers, and no query with two lines.
+    ensures queries { CountsQueries report.new }
 {
     watch_disturbed(
         alloc,
@@ -102,14 +105,6 @@ pub fn watch_disturbed<S: ScriptSource, C: PcapSink, W: Watcher>(
 {
     let mut link = Disturber::new(faults);
     run_over(
-        alloc,
-        source,
-        &mut link,
-        capture,
-        config,
-        words,
-        max_events,
-        report,
-        watcher,
+        alloc, source, &mut link, capture, config, words, max_events, report, watcher,
     )
 }
