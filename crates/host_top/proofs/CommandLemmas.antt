@@ -1,5 +1,5 @@
 -- Words that name a command.
-use Rattle.std.proofs.Common.{◌≡◌, ℕ, ◌⊎◌, inl, inr, ◌-◌, ◌*◌, ◌≤◌, false, List, [], ◌∷◌, length, length-drop, take, drop, map, codes, Option, None, Some, IfSome, IfNone, option_map, unwrap_or, refl, sym, ◌∙◌, ap, ap₂, subst, arith}
+use Rattle.std.proofs.Common.{◌≡◌, ℕ, ◌⊎◌, inl, inr, ◌-◌, ◌*◌, ◌≤◌, false, List, [], ◌∷◌, length, length-drop, get_or, take, drop, map, codes, Option, None, Some, IfSome, IfNone, option_map, unwrap_or, refl, sym, ◌∙◌, ap, ap₂, subst, arith}
 use Rattle.std.proofs.lemmas.List.{take_all}
 use Rattle.std.proofs.lemmas.Option.{none-some}
 use Rattle.host_model.specs.Settings.{Settings}
@@ -10,6 +10,8 @@ use Rattle.net_wire.specs.declared.address.EthernetAddress.{EthernetAddress}
 use Rattle.host_top.specs.declared.command.Asked.{Asked}
 use Rattle.host_top.specs.declared.command.Command.{Command}
 use Rattle.host_top.specs.declared.command.Command.TheVariants.{Run, Make, Help, Disturb}
+use Rattle.host_top.specs.declared.command.Keyword.{Keyword}
+use Rattle.host_top.specs.declared.command.Keyword.TheVariants as keyword
 use Rattle.host_top.specs.declared.command.MakeCommand.{MakeCommand}
 use Rattle.host_top.specs.declared.command.RunCommand.{RunCommand}
 use Rattle.host_top.specs.declared.setting.RunSettings.{RunSettings}
@@ -17,7 +19,7 @@ use Rattle.host_top.specs.declared.disturb_command.DisturbCommand.{DisturbComman
 use Rattle.host_top.specs.Disturb.{WritesDisturb}
 use Rattle.host_top.specs.RunWords.{WritesRun, NamesRun, IsRunnable, settings_named}
 use Rattle.host_top.specs.MakeWords.{WritesMake, NamesMake, run_of_make}
-use Rattle.host_top.specs.Command.{NameHelp, IsHelpWord, NameWork, NameLiveWork, CanBeLive, Names, AreNamed, command_asked, IsTaken, NamesOne, IsCommand}
+use Rattle.host_top.specs.Command.{NameHelp, IsHelpWord, IsKeyword, NameWork, NameLiveWork, CanBeLive, Names, AreNamed, command_asked, IsTaken, NamesOne, IsCommand}
 use Rattle.host_top.specs.HostMain.{Ask, AskForNoWork}
 use Rattle.host_top.specs.Setting.{Sets}
 use Rattle.host_top.proofs.OneSettingLemmas.{sets_one}
@@ -54,11 +56,18 @@ help_key key long dashed short (inr (inr is)) = short is
 other_than : (key word : List ℕ) → (IsHelpWord key → ⊥) → IsHelpWord word → word ≡ key → ⊥
 other_than key word other asks same = other (subst IsHelpWord same asks)
 
+-- words that differ in one letter
+other_letter : (n : ℕ) (xs ys : List ℕ) → (get_or xs n 0 ≡ get_or ys n 0 → ⊥) → xs ≡ ys → ⊥
+other_letter n xs ys differ is = differ (ap (λ l. get_or l n 0) is)
+
 run_is_no_help : IsHelpWord (codes "run") → ⊥
 run_is_no_help = help_key (codes "run") (λ is. cc) (λ is. cc) (λ is. cc)
 
 make_is_no_help : IsHelpWord (codes "make") → ⊥
-make_is_no_help = help_key (codes "make") (λ is. cc) (λ is. cc) (λ is. cc)
+make_is_no_help =
+    help_key (codes "make") (other_letter 0 (codes "make") (codes "help") (λ (e : 109 ≡ 104). omega (arith, e)))
+    (other_letter 0 (codes "make") (codes "--help") (λ (e : 109 ≡ 45). omega (arith, e)))
+    (other_letter 0 (codes "make") (codes "-h") (λ (e : 109 ≡ 45). omega (arith, e)))
 
 disturb_is_no_help : IsHelpWord (codes "disturb") → ⊥
 disturb_is_no_help = help_key (codes "disturb") (λ is. cc) (λ is. cc) (λ is. cc)
@@ -103,6 +112,47 @@ undisturbed f words none first (Disturb disturb) named =
     none disturb (subst (λ l. WritesDisturb l disturb) (moved_behind f words (codes "disturb") named.behind named.are) named.write)
 undisturbed f words none first Help named =
     other_than (codes "disturb") named.word disturb_is_no_help named.asks (first named.word [] named.are)
+
+-- lists of words begin with one word
+one_first : (words : List (List ℕ)) (a b : List ℕ) (xs ys : List (List ℕ)) → words ≡ a ∷ xs → words ≡ b ∷ ys → a ≡ b
+one_first words a b xs ys one other = ap (λ l. get_or l 0 []) (sym one ∙ other)
+
+pub is_first : {X : Type 0} (f : X → List ℕ) (words : List X) (key : List ℕ) (rest : List (List ℕ)) → map f words ≡ key ∷ rest
+    → IsFirst f words key
+is_first f words key rest are word behind is = one_first (map f words) word key behind rest is are
+
+-- words, by the first one, whose bytes these are
+pub opened : {X : Type 0} (f : X → List ℕ) (words : List X) (word : X) (bytes : List ℕ) → 1 ≤ length words → word ≡ get_or words 0 word
+    → bytes ≡ f word → map f words ≡ bytes ∷ behind_first f words
+opened f [] word bytes some is are = absurd (omega (arith, some))
+opened f (first ∷ words) word bytes some is are =
+    ap (λ l. f first ∷ map f l) (behind (first ∷ words) 1)
+    ∙ ap (λ w. w ∷ behind_first f (first ∷ words)) (sym (ap f is) ∙ sym are)
+
+pub opened_as : {X : Type 0} (f : X → List ℕ) (words : List X) (word : X) (bytes key : List ℕ) → 1 ≤ length words → word ≡ get_or words 0 word
+    → bytes ≡ f word → bytes ≡ key → map f words ≡ key ∷ behind_first f words
+opened_as f words word bytes key some is are same = opened f words word bytes some is are ∙ ap (λ w. w ∷ behind_first f words) same
+
+-- where the first word is that of no command
+pub unworded : (words rest : List (List ℕ)) (word : List ℕ) → words ≡ word ∷ rest → ((key : Keyword) → IsKeyword word key → ⊥)
+    → (command : Command) → NameWork words command → ⊥
+unworded words rest word are none (Run run) named = none keyword.Run (one_first words word (codes "run") rest named.behind are named.are)
+unworded words rest word are none (Make make) named = none keyword.Make (one_first words word (codes "make") rest named.behind are named.are)
+unworded words rest word are none (Disturb disturb) named =
+    none keyword.Disturb (one_first words word (codes "disturb") rest named.behind are named.are)
+unworded words rest word are none Help named =
+    none keyword.Help (subst IsHelpWord (one_first words named.word word [] rest named.are are) named.asks)
+
+-- where more words stand behind one that asks how the program is used
+pub unhelped : (words : List (List ℕ)) (word more : List ℕ) (rest : List (List ℕ)) → words ≡ word ∷ more ∷ rest → IsHelpWord word
+    → (command : Command) → NameWork words command → ⊥
+unhelped words word more rest are asks (Run run) named =
+    run_is_no_help (subst IsHelpWord (one_first words word (codes "run") (more ∷ rest) named.behind are named.are) asks)
+unhelped words word more rest are asks (Make make) named =
+    make_is_no_help (subst IsHelpWord (one_first words word (codes "make") (more ∷ rest) named.behind are named.are) asks)
+unhelped words word more rest are asks (Disturb disturb) named =
+    disturb_is_no_help (subst IsHelpWord (one_first words word (codes "disturb") (more ∷ rest) named.behind are named.are) asks)
+unhelped words word more rest are asks Help named = absurd (cc (are, named.are))
 
 abbrev address_made : List ℕ → EthernetAddress
 address_made bytes = record { 0 = bytes }
@@ -187,14 +237,26 @@ one_work words Help (Disturb other) first second =
     absurd (help_against words (codes "disturb") second.behind disturb_is_no_help first second.are)
 
 live_is_no_help : IsHelpWord (codes "live") → ⊥
-live_is_no_help = help_key (codes "live") (λ is. cc) (λ is. cc) (λ is. cc)
+live_is_no_help =
+    help_key (codes "live") (other_letter 0 (codes "live") (codes "help") (λ (e : 108 ≡ 104). omega (arith, e)))
+    (other_letter 0 (codes "live") (codes "--help") (λ (e : 108 ≡ 45). omega (arith, e)))
+    (other_letter 0 (codes "live") (codes "-h") (λ (e : 108 ≡ 45). omega (arith, e)))
+
+run_is_not_live : codes "run" ≡ codes "live" → ⊥
+run_is_not_live = other_letter 0 (codes "run") (codes "live") (λ (e : 114 ≡ 108). omega (arith, e))
+
+make_is_not_live : codes "make" ≡ codes "live" → ⊥
+make_is_not_live = other_letter 0 (codes "make") (codes "live") (λ (e : 109 ≡ 108). omega (arith, e))
+
+disturb_is_not_live : codes "disturb" ≡ codes "live" → ⊥
+disturb_is_not_live = other_letter 0 (codes "disturb") (codes "live") (λ (e : 100 ≡ 108). omega (arith, e))
 
 -- no command without `live` has it for its first word
-pub live_is_no_work : (words behind : List (List ℕ)) (command : Command) → words ≡ codes "live" ∷ behind → NameWork words command → ⊥
-live_is_no_work words behind (Run run) are named = absurd (cc (are, named.are))
-live_is_no_work words behind (Make make) are named = absurd (cc (are, named.are))
-live_is_no_work words behind (Disturb disturb) are named = absurd (cc (are, named.are))
-live_is_no_work words behind Help are named = help_against words (codes "live") behind live_is_no_help named are
+pub live_is_no_work : (words rest : List (List ℕ)) (command : Command) → words ≡ codes "live" ∷ rest → NameWork words command → ⊥
+live_is_no_work words rest (Run run) are named = run_is_not_live (one_first words (codes "run") (codes "live") named.behind rest named.are are)
+live_is_no_work words rest (Make make) are named = make_is_not_live (one_first words (codes "make") (codes "live") named.behind rest named.are are)
+live_is_no_work words rest (Disturb disturb) are named = disturb_is_not_live (one_first words (codes "disturb") (codes "live") named.behind rest named.are are)
+live_is_no_work words rest Help are named = help_against words (codes "live") rest live_is_no_help named are
 
 -- words name one command at most
 pub names_one : NamesOne
@@ -209,9 +271,9 @@ names_one words one other (inr first) (inr second) =
 pub unlive : {X : Type 0} (f : X → List ℕ) (words : List X)
     → ((command : Command) → NameLiveWork (behind_first f words) command → ⊥)
     → IsFirst f words (codes "live") → IsTaken (map f words) → ⊥
-unlive f words none first (Run run, inl named) = absurd (cc (first (codes "run") named.behind named.are))
-unlive f words none first (Make make, inl named) = absurd (cc (first (codes "make") named.behind named.are))
-unlive f words none first (Disturb disturb, inl named) = absurd (cc (first (codes "disturb") named.behind named.are))
+unlive f words none first (Run run, inl named) = run_is_not_live (first (codes "run") named.behind named.are)
+unlive f words none first (Make make, inl named) = make_is_not_live (first (codes "make") named.behind named.are)
+unlive f words none first (Disturb disturb, inl named) = disturb_is_not_live (first (codes "disturb") named.behind named.are)
 unlive f words none first (Help, inl named) =
     other_than (codes "live") named.word live_is_no_help named.asks (first named.word [] named.are)
 unlive f words none first (command, inr named) =

@@ -1,5 +1,6 @@
 pub mod CommandLemmas
 pub mod DigitLemmas
+pub mod DisturbLemmas
 pub mod EndingLemmas
 pub mod FinishLemmas
 pub mod HexLemmas

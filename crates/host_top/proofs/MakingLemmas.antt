@@ -45,6 +45,6 @@ nothing_made make before report few empty =
         rest = Some some.0;
         made = some.1;
         unread = record { left = refl; faults = refl };
-        left = (nothing_run (task_named (run_of_make make)) fed report empty, record { source = refl; capture = refl });
+        left = (nothing_run (task_named (run_of_make make)) fed report refl empty, record { source = refl; capture = refl });
       },
     )

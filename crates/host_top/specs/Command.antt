@@ -1,8 +1,10 @@
 -- The words that the program takes, and what they name.
-use Rattle.std.specs.Prelude.{◌≡◌, ℕ, ◌×◌, ◌⊎◌, ⊤, true, false, List, [], ◌∷◌, Option, option_map, codes}
+use Rattle.std.specs.Prelude.{◌≡◌, ℕ, ◌⊎◌, ⊤, true, false, List, [], ◌∷◌, Option, option_map, codes}
 use Rattle.host_top.specs.declared.command.Asked.{Asked}
 use Rattle.host_top.specs.declared.command.Command.{Command}
 use Rattle.host_top.specs.declared.command.Command.TheVariants.{Run, Make, Help, Disturb}
+use Rattle.host_top.specs.declared.command.Keyword.{Keyword}
+use Rattle.host_top.specs.declared.command.Keyword.TheVariants as keyword
 use Rattle.host_top.specs.Disturb.{NamesDisturb, IsDisturbable}
 use Rattle.host_top.specs.MakeWords.{NamesMake, run_of_make}
 use Rattle.host_top.specs.RunWords.{NamesRun, IsRunnable}
@@ -11,7 +13,14 @@ use Rattle.host_top.specs.RunWords.{NamesRun, IsRunnable}
 abbrev pub IsHelpWord : List ℕ → Type 0
 IsHelpWord word = (word ≡ codes "help") ⊎ ((word ≡ codes "--help") ⊎ (word ≡ codes "-h"))
 
--- such a word stands alone
+-- the first word of a command
+abbrev pub IsKeyword : List ℕ → Keyword → Type 0
+IsKeyword word keyword.Run = word ≡ codes "run"
+IsKeyword word keyword.Make = word ≡ codes "make"
+IsKeyword word keyword.Help = IsHelpWord word
+IsKeyword word keyword.Disturb = word ≡ codes "disturb"
+
+-- a word that asks how the program is used stands alone
 pub record NameHelp (words : List (List ℕ)) : Type 0 where
   pub word : List ℕ
   pub are : words ≡ word ∷ []

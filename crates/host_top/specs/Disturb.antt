@@ -1,5 +1,5 @@
 -- The words that name a run over a bad link, and what that leaves.
-use Rattle.std.specs.Prelude.{◌≡◌, ℕ, ◌×◌, ◌≤◌, List, [], ◌∷◌, codes}
+use Rattle.std.specs.Prelude.{◌≡◌, ℕ, ◌≤◌, List, [], ◌∷◌, codes}
 use Rattle.host_disturb.specs.declared.fault_values.FaultValues.{FaultValues}
 use Rattle.host_disturb.specs.Disturbed.{disturbed}
 use Rattle.net_host.specs.declared.report.Row.{Row}

@@ -1,6 +1,7 @@
 -- What a printer of rows hands to its output.
 use mathlib.Core.Path.{subst, sym}
 use mathlib.Core.List.{append-nil}
+use native.Mathlib.Nat.{add-zero}
 use Rattle.std.specs.Prelude.{◌≡◌, ℕ, ◌+◌, ◌<◌, ◌^◌, Bool, List, [], ◌++◌, length, Option, Result, refl}
 use Rattle.std.specs.List.{flat_map, enumerate_from}
 use Rattle.phy_layers.specs.declared.byte_sink.ByteSink as byte_sink
@@ -32,4 +33,4 @@ puts_nothing {S} {bytes} {faults} {grows} {answer} {now} = record {
 
 -- and of no rows nothing
 pub prints_no_row : {O : Type 0} (sink : byte_sink.Ghosts O) (printer : RowPrinter O) → PrintsRows sink printer [] printer
-prints_no_row {O} sink printer = record { same = refl; counted = λ few. refl; puts = λ few. puts_nothing }
+prints_no_row {O} sink printer = record { same = refl; counted = λ few. sym (add-zero printer.number); puts = λ few. puts_nothing }

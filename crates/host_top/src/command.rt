@@ -1,6 +1,6 @@
 //! The words of a command.
-ghost use Rattle.std.specs.Prelude.{◌≡◌, ℕ, true, false, map, string_bytes, IfSome, IfNone};
-ghost use Rattle.host_top.specs.Command.{AreNamed, NameWork, NameLiveWork, CanBeLive, IsTaken, NamesOne};
+ghost use Rattle.std.specs.Prelude.{◌≡◌, ℕ, true, false, codes, map, string_bytes, IfSome, IfNone};
+ghost use Rattle.host_top.specs.Command.{AreNamed, NameWork, NameLiveWork, CanBeLive, IsHelpWord, IsKeyword, IsTaken, NamesOne};
 ghost use Rattle.host_top.specs.RunWords.{WritesRun, IsCountWord};
 ghost use Rattle.host_top.specs.MakeWords.{WritesMake};
 
@@ -68,16 +68,24 @@ pub fn parse(words: &[String]) -> Option<Asked>
     let [name, behind @ ..] = words else {
         return None;
     };
-    match name.as_bytes() {
-        b"live" => Some(Asked {
+    if is_live_word(name.as_bytes()) {
+        Some(Asked {
             command: live_of(behind)?,
             is_live: true,
-        }),
-        _ => Some(Asked {
+        })
+    } else {
+        Some(Asked {
             command: command_of(words)?,
             is_live: false,
-        }),
+        })
     }
+}
+
+fn is_live_word(word: &[u8]) -> bool
+    ensures yes { result ≡ true → word.now ≡ codes "live" }
+    ensures no { result ≡ false → word.now ≡ codes "live" → ⊥ }
+{
+    word == b"live".as_slice()
 }
 
 /// The command that the words behind `live` name.
@@ -98,16 +106,56 @@ fn command_of(words: &[String]) -> Option<Command>
     ensures found { IfSome result (NameWork (map string_bytes words.now)) }
     ensures refuses { IfNone result ((command : Command) → NameWork (map string_bytes words.now) command → ⊥) }
 {
-    let [name, words @ ..] = words else {
+    let [name, behind @ ..] = words else {
         return None;
     };
-    match name.as_bytes() {
-        b"run" => Some(Command::Run(run_of(words)?)),
-        b"make" => Some(Command::Make(make_of(words)?)),
-        b"disturb" => Some(Command::Disturb(disturb_of(words)?)),
-        b"help" | b"--help" | b"-h" if words.is_empty() => Some(Command::Help),
-        _ => None,
+    let keyword = keyword_of(name.as_bytes())?;
+    match keyword {
+        Keyword::Run => Some(Command::Run(run_of(behind)?)),
+        Keyword::Make => Some(Command::Make(make_of(behind)?)),
+        Keyword::Help => {
+            if behind.is_empty() {
+                Some(Command::Help)
+            } else {
+                None
+            }
+        }
+        Keyword::Disturb => Some(Command::Disturb(disturb_of(behind)?)),
     }
+}
+
+/// What the first word of a command asks for.
+#[derive(Clone, Copy, Debug, PartialEq, Eq)]
+enum Keyword {
+    Run,
+    Make,
+    Help,
+    Disturb,
+}
+
+/// The command that a first word is for.
+fn keyword_of(word: &[u8]) -> Option<Keyword>
+    ensures found { IfSome result (IsKeyword word.now) }
+    ensures refuses { IfNone result ((keyword : Keyword) → IsKeyword word.now keyword → ⊥) }
+{
+    if word == b"run".as_slice() {
+        Some(Keyword::Run)
+    } else if word == b"make".as_slice() {
+        Some(Keyword::Make)
+    } else if is_help_word(word) {
+        Some(Keyword::Help)
+    } else if word == b"disturb".as_slice() {
+        Some(Keyword::Disturb)
+    } else {
+        None
+    }
+}
+
+fn is_help_word(word: &[u8]) -> bool
+    ensures yes { result ≡ true → IsHelpWord word.now }
+    ensures no { result ≡ false → IsHelpWord word.now → ⊥ }
+{
+    word == b"help".as_slice() || word == b"--help".as_slice() || word == b"-h".as_slice()
 }
 
 /// The run that the words behind `run` name.

@@ -1,16 +1,30 @@
-use Rattle.std.proofs.Common.{rules}
 use Rattle.std.specs.String.{string_bytes}
-use Rattle.host_top.proofs.CommandLemmas.{unwritten, unmade, undisturbed}
+use Rattle.host_top.proofs.CommandLemmas.{is_first, opened, opened_as, undisturbed, unmade, unworded, unwritten}
 use Rattle.host_top.proofs.command.command_of.Goals as goal
 
-pub returns-in_err-run_of-in-run-clause-refuses : goal.returns-in_err-run_of-in-run-clause-refuses
-returns-in_err-run_of-in-run-clause-refuses c =
-    rw c.from_residual.ensures (unwritten string_bytes c.args.words.now c.in_err-run_of-in-run.ensures.refuses (λ word behind is. search rules))
+pub returns-in_err-keyword-clause-refuses : goal.returns-in_err-keyword-clause-refuses
+returns-in_err-keyword-clause-refuses c =
+    let are = opened string_bytes c.args.words.now c.name-item.result c.as_bytes.result.now c.in-len1-up.len_at_least c.name-item.is
+    c.as_bytes.ensures.value in
+    rw c.from_residual.ensures (unworded _ _ c.as_bytes.result.now are c.in_err-keyword.ensures.refuses)
 
-pub returns-in_err-make_of-in-make-clause-refuses : goal.returns-in_err-make_of-in-make-clause-refuses
-returns-in_err-make_of-in-make-clause-refuses c =
-    rw c.from_residual-in_err-make_of-in-make.ensures (unmade string_bytes c.args.words.now c.in_err-make_of-in-make.ensures.refuses (λ word behind is. search rules))
+pub returns-in_err-run_of-in-Run-clause-refuses : goal.returns-in_err-run_of-in-Run-clause-refuses
+returns-in_err-run_of-in-Run-clause-refuses c =
+    let are = opened_as string_bytes c.args.words.now c.name-item.result c.as_bytes.result.now _ c.in-len1-up.len_at_least c.name-item.is
+    c.as_bytes.ensures.value (rw c.in-Run.is at c.in_ok-keyword.ensures.found) in
+    rw c.from_residual-in_err-run_of-in-Run.ensures
+    (unwritten string_bytes c.args.words.now c.in_err-run_of-in-Run.ensures.refuses (is_first string_bytes c.args.words.now _ _ are))
 
-pub returns-in_err-disturb_of-in-disturb-clause-refuses : goal.returns-in_err-disturb_of-in-disturb-clause-refuses
-returns-in_err-disturb_of-in-disturb-clause-refuses c =
-    rw c.from_residual-in_err-disturb_of-in-disturb.ensures (undisturbed string_bytes c.args.words.now c.in_err-disturb_of-in-disturb.ensures.refuses (λ word behind is. search rules))
+pub returns-in_err-make_of-in-Make-clause-refuses : goal.returns-in_err-make_of-in-Make-clause-refuses
+returns-in_err-make_of-in-Make-clause-refuses c =
+    let are = opened_as string_bytes c.args.words.now c.name-item.result c.as_bytes.result.now _ c.in-len1-up.len_at_least c.name-item.is
+    c.as_bytes.ensures.value (rw c.in-Make.is at c.in_ok-keyword.ensures.found) in
+    rw c.from_residual-in_err-make_of-in-Make.ensures
+    (unmade string_bytes c.args.words.now c.in_err-make_of-in-Make.ensures.refuses (is_first string_bytes c.args.words.now _ _ are))
+
+pub returns-in_err-disturb_of-in-Disturb-clause-refuses : goal.returns-in_err-disturb_of-in-Disturb-clause-refuses
+returns-in_err-disturb_of-in-Disturb-clause-refuses c =
+    let are = opened_as string_bytes c.args.words.now c.name-item.result c.as_bytes.result.now _ c.in-len1-up.len_at_least c.name-item.is
+    c.as_bytes.ensures.value (rw c.in-Disturb.is at c.in_ok-keyword.ensures.found) in
+    rw c.from_residual-in_err-disturb_of-in-Disturb.ensures
+    (undisturbed string_bytes c.args.words.now c.in_err-disturb_of-in-Disturb.ensures.refuses (is_first string_bytes c.args.words.now _ _ are))

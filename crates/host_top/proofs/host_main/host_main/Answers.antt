@@ -1,4 +1,4 @@
-use Rattle.host_top.proofs.CommandLemmas.{asked_by, asked_command}
+use Rattle.host_top.proofs.CommandLemmas.{asked_by, asked_command, no_work}
 use Rattle.host_top.proofs.EndingLemmas.{refused_exactly, complete_named}
 use Rattle.host_top.proofs.StatusLemmas.{says}
 use Rattle.host_top.proofs.host_main.host_main.Goals as goal
@@ -28,3 +28,8 @@ returns-clause-complete g c = λ taken read capture output.
 
 pub obey-finish-requires-clause-command : goal.obey-finish-requires-clause-command
 obey-finish-requires-clause-command g c = asked_command _ _ c.parse-asked.ensures.found
+
+pub returns-clause-untouched : goal.returns-clause-untouched
+returns-clause-untouched g c = λ asks.
+    c.obey-finish.ensures.untouched
+    (no_work _ _ (asked_by _ _ c.parse-asked.ensures.found c.parse-asked.ensures.refuses) asks)

@@ -34,4 +34,4 @@ returns g c =
     RanTo (run_of_make make) (fed_with (Some bytes) before) (fed_with rest after) c.run_script.new.report c.run_script.result in
     made_ran make before after c.run_script.new.report c.run_script.result c.in-Ok-make_script.bytes.items rest
     (subst M words c.in-Ok-make_script.ensures) (record { left = refl; faults = refl })
-    (subst Q c.new-script.ensures (subst P c.run_of_make-run.ensures c.run_script.ensures))
+    (subst Q c.new-script.ensures (subst P c.run_of_make-run.ensures c.run_script.ensures.ran))
