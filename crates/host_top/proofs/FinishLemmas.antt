@@ -1,5 +1,5 @@
 -- What each command finishes with.
-use Rattle.std.proofs.Common.{◌≡◌, List, [], ◌++◌, Option, Some, None, refl, sym, ap, subst}
+use Rattle.std.proofs.Common.{◌≡◌, List, [], ◌++◌, Some, None, refl}
 use Rattle.phy_layers.specs.declared.byte_sink.ByteSink as byte_sink
 use Rattle.phy_layers.specs.Sink.{Took}
 use Rattle.script_source.specs.declared.source.ScriptSource as script_source

@@ -1,5 +1,5 @@
 -- What is left by the run of a made script.
-use Rattle.std.proofs.Common.{◌≡◌, ℕ, ◌<◌, ◌≤◌, ◌^◌, List, [], Option, Some, sym, subst, refl, arith}
+use Rattle.std.proofs.Common.{◌≡◌, ℕ, ◌≤◌, List, [], Option, Some, refl, arith}
 use Rattle.host_model.proofs.ClassLemmas.{not_over, not_broken}
 use Rattle.made_script.specs.Made.{IsMadeScript}
 use Rattle.made_script.proofs.SomeLemmas.{makes_some}
@@ -12,7 +12,7 @@ use Rattle.host_top.specs.declared.ending.Ending.TheVariants.{Done, Refused, Scr
 use Rattle.host_top.specs.MakeWords.{run_of_make}
 use Rattle.host_top.specs.Generator.{event_words}
 use Rattle.host_top.specs.Ran.{task_named, RanTo}
-use Rattle.host_top.specs.Making.{IsUnread, IsLeftByMade, IsEndingOfMade, MadeTo, fed_with}
+use Rattle.host_top.specs.Making.{IsUnread, IsEndingOfMade, MadeTo, fed_with}
 
 -- a made script ends no run, nor does a source in memory
 ends : (make : MakeCommand) (before after : Outside) (report : List Row) (ending : Ending) (bytes : List ℕ) (rest : Option (List ℕ))

@@ -1,5 +1,5 @@
 -- What each status says of how a command ended.
-use Rattle.std.proofs.Common.{◌≡◌, ℕ, ◌<◌, List, Option, Some, None, Result, Ok, Err, IfSome, sym, ap, subst, refl, ◌∙◌, arith}
+use Rattle.std.proofs.Common.{◌≡◌, ℕ, ◌<◌, List, Option, Some, None, Result, Ok, Err, IfSome, sym, ap, ◌∙◌, arith}
 use Rattle.wire_base.specs.Causes.{IsRisen}
 use Rattle.host_model.specs.Classes.{IsBrokenAt}
 use Rattle.phy_layers.specs.declared.byte_sink.SinkError.{SinkError}

@@ -1,5 +1,5 @@
 -- What the program does, by the words, the script and what the outside tells.
-use Rattle.std.specs.Prelude.{◌≡◌, ℕ, ◌⊎◌, List, [], ◌++◌, Option, Some, None, IfSome, Result}
+use Rattle.std.specs.Prelude.{◌≡◌, ℕ, ◌⊎◌, List, [], ◌++◌, Option, Some, None, IfSome}
 use Rattle.host_model.specs.Classes.{IsBrokenAt, IsOverLimit}
 use Rattle.phy_layers.specs.declared.byte_sink.ByteSink as byte_sink
 use Rattle.phy_layers.specs.Sink.{Took}

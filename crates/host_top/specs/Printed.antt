@@ -2,7 +2,7 @@
 use mathlib.Core.Path.{subst, sym}
 use mathlib.Core.List.{append-nil}
 use native.Mathlib.Nat.{add-zero}
-use Rattle.std.specs.Prelude.{◌≡◌, ℕ, ◌+◌, ◌<◌, ◌^◌, Bool, List, [], ◌++◌, length, Option, Result, refl}
+use Rattle.std.specs.Prelude.{◌≡◌, ℕ, ◌+◌, ◌<◌, ◌^◌, Bool, List, [], length, Option, Result, refl}
 use Rattle.std.specs.List.{flat_map, enumerate_from}
 use Rattle.phy_layers.specs.declared.byte_sink.ByteSink as byte_sink
 use Rattle.phy_layers.specs.declared.byte_sink.SinkError.{SinkError}

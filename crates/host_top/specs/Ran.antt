@@ -1,5 +1,5 @@
 -- What a run left that a command names.
-use Rattle.std.specs.Prelude.{ℕ, List}
+use Rattle.std.specs.Prelude.{List}
 use Rattle.net_host.specs.declared.report.Row.{Row}
 use Rattle.net_host.specs.declared.run_script.RunError.{RunError}
 use Rattle.net_host.specs.declared.run_script.RunError.TheVariants as run_error

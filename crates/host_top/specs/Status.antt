@@ -1,5 +1,5 @@
 -- The status that the program ends with, and why.
-use Rattle.std.specs.Prelude.{◌≡◌, ℕ, ◌⊎◌, List, IfSome, Option}
+use Rattle.std.specs.Prelude.{◌≡◌, ℕ, ◌⊎◌, List}
 use Rattle.host_model.specs.Classes.{IsValidScript, IsBrokenAt, IsOverLimit}
 
 -- the status is this one, or a fault of the output or want of memory replaced it

@@ -4,7 +4,7 @@ use Rattle.std.specs.Fmt.{decimal}
 use Rattle.std.specs.List.{filter, flat_map}
 use Rattle.net_wire.specs.declared.address.Ipv4Cidr.{Ipv4Cidr}
 use Rattle.host_model.specs.declared.query_line.Outcome.{Outcome}
-use Rattle.host_model.specs.declared.query_line.Outcome.TheVariants.{Refused, Answered, Failed}
+use Rattle.host_model.specs.declared.query_line.Outcome.TheVariants.{Answered, Failed}
 use Rattle.host_model.specs.declared.query_line.QueryLine.{QueryLine}
 use Rattle.net_host.specs.declared.report.Kind.{Kind}
 use Rattle.net_host.specs.declared.report.Kind.TheVariants.{Tick, Reset, Frame, Query}

@@ -32,7 +32,12 @@ pub fn report_text<O: ByteSink>(report: &Report, out: &mut O) -> Result<(), Sink
 }
 
 /// The lines of a row.
-pub(crate) fn put_row<O: ByteSink>(out: &mut O, answer: &mut Result<(), SinkError>, number: u64, row: &Row)
+pub(crate) fn put_row<O: ByteSink>(
+    out: &mut O,
+    answer: &mut Result<(), SinkError>,
+    number: u64,
+    row: &Row,
+)
     ensures { Puts O.bytes O.faults O.grows answer.old answer.new (row_text (number, row.now)) out.old out.new }
 {
     put_event(out, answer, number, row);

@@ -1,6 +1,5 @@
 use Rattle.std.proofs.Common.{ℕ, List, refl, subst, sym}
 use Rattle.std.specs.String.{string_bytes}
-use Rattle.net_wire.specs.declared.address.EthernetAddress.{EthernetAddress}
 use Rattle.host_top.specs.Disturb.{IsChanceWord}
 use Rattle.host_top.specs.RunWords.{IsCountWord}
 use Rattle.host_top.specs.Word.{IsU32Word, IsAddressWord}
