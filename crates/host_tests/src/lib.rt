@@ -23,6 +23,8 @@ mod fuzzed;
 #[cfg(test)]
 mod links;
 #[cfg(test)]
+mod live;
+#[cfg(test)]
 mod lives;
 #[cfg(test)]
 mod lookups;

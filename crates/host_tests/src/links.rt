@@ -24,8 +24,12 @@ fn a_host_meets_what_a_link_lets_through(rt: HostRuntime) -> Result<(), Fail> {
     })?;
     let words = [1, 2, 3, 4, 5, 6];
     let plain = runs::report_of(alloc, Vec::from_slice(alloc, SCRIPT)?, &config, &words);
-    let muffled =
-        links::report_without_frames(alloc, Vec::from_slice(alloc, SCRIPT)?, &config, &words);
+    let muffled = links::report_without_frames(
+        alloc,
+        Vec::from_slice(alloc, SCRIPT)?,
+        &config,
+        &words,
+    );
     let (Ok(plain), Ok(muffled)) = (plain, muffled) else {
         return Ok(());
     };

@@ -1,11 +1,11 @@
 //! Words that are taken, and words that are refused.
 use crate::calls::{FILE_HEADER, run_words, strings_of};
-use host_top::command::{Command, parse};
+use host_top::command::{Asked, Command, parse};
 use std::alloc::{AllocError, Global};
 use std::test::Fail;
 
 /// Words that name no command.
-const COMMANDS: [&[&str]; 25] = [
+const COMMANDS: [&[&str]; 30] = [
     &[],
     &["run"],
     &["run", "020202020202", "1"],
@@ -28,9 +28,23 @@ const COMMANDS: [&[&str]; 25] = [
     &["--help", "--help"],
     &["-help"],
     &["disturb", "020202020202", "1", "10", "7", "100"],
-    &["disturb", "020202020202", "1", "10", "7", "100", "0", "mtu=576"],
+    &[
+        "disturb",
+        "020202020202",
+        "1",
+        "10",
+        "7",
+        "100",
+        "0",
+        "mtu=576",
+    ],
     &["disturb", "020202020202", "1", "10", "7", "101", "0"],
     &["disturb", "020202020202", "1", "10", "7", "0", "0000"],
+    &["live"],
+    &["live", "make", "1", "1"],
+    &["live", "help"],
+    &["live", "live", "run", "020202020202", "1", "10"],
+    &["run", "live", "020202020202", "1", "10"],
 ];
 
 /// The words of a run of at most ten events.
@@ -62,6 +76,7 @@ const SETTINGS: [&[&str]; 19] = [
 const USAGE: &[u8] = b"usage: run HW SEED MAX [mtu=N] [lease=N] [naks=ignore|obey]
        make SEED COUNT
        disturb HW SEED MAX FSEED DROP CORRUPT
+       live COMMAND ...
        help
 ";
 
@@ -118,7 +133,12 @@ const TAKEN: [Taken; 12] = [
 fn is_taken(alloc: Global, words: &[&str], (settings, want): Taken) -> Result<bool, AllocError> {
     let args = strings_of(alloc, words, settings)?;
     let says = match parse(args.as_slice()) {
-        Some(Command::Run(run)) => {
+        Some(
+            Asked {
+                command: Command::Run(run),
+                is_live: false,
+            },
+        ) => {
             let said = run.settings;
             (said.ip_mtu, said.max_lease_secs, said.ignore_naks) == want
         }
