@@ -1,0 +1,5 @@
+pub mod Capture
+pub mod Explained
+pub mod Places
+pub mod Reading
+pub mod Rows
