@@ -1,6 +1,6 @@
 -- The entries of a file stand where their lengths say.
 use Rattle.std.proofs.Common.{◌≡◌, ℕ, ◌^◌, ◌<◌, List, [], ◌∷◌, ◌++◌, length, take, drop, ap, sym, ◌∙◌, arith, append_assoc, length-append}
-use Rattle.std.specs.Int.{to_le_bytes, from_le_bytes, w32}
+use Rattle.std.specs.Int.{from_le_bytes, w32}
 use Rattle.std.proofs.lemmas.Nat.{from_le_bytes-to_le_bytes_4}
 use Rattle.std.proofs.Math.Seq.{drop-append_seam}
 use Rattle.capture_explain.specs.Capture.{header_front, header_end, IsHeader, CaptureEntry, entry_head, entry_bytes, IsEntry, AreEntries, entries_bytes, IsFront, IsCaptureFile, HasNoHeader, BeginsNoEntry, IsBrokenAt, IsOverLimit}

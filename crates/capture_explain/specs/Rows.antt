@@ -1,5 +1,5 @@
 -- What a row says of an entry.
-use Rattle.std.specs.Prelude.{◌≡◌, List, [], ◌∷◌, length, ⊤}
+use Rattle.std.specs.Prelude.{◌≡◌, List, [], ◌∷◌, length}
 use Rattle.capture_explain.specs.Capture.{CaptureEntry}
 use Rattle.capture_explain.specs.declared.explanation.ExplainRow.{ExplainRow}
 

@@ -1,5 +1,5 @@
 //! The parts of a capture file, read one behind the other (draft-ietf-opsawg-pcap, sections 4 and 5).
-ghost use Rattle.std.specs.Prelude.{◌≡◌, ℕ, ◌<◌, ◌≤◌, true, false, length, IfOk, IfErr, IfSome, IfNone, OnOk};
+ghost use Rattle.std.specs.Prelude.{◌≡◌, ℕ, ◌∷◌, ◌↔◌, ◌<◌, ◌≤◌, IsTrue, true, false, length, IfOk, IfErr, IfSome, IfNone, OnOk};
 ghost use Rattle.std.specs.Result.{IsErrOf};
 ghost use Rattle.std.specs.Io.KnownBytes.{IsAtEnd};
 ghost use Rattle.wire_base.specs.Causes.{IsRisen};
@@ -36,13 +36,20 @@ pub(crate) struct EntryHead {
     pub length: u32,
 }
 
+/// Both are the same bytes.
+fn same_bytes(some: &[u8], others: &[u8]) -> bool
+    ensures { IsTrue result ↔ (some.now ≡ others.now) }
+{
+    some == others
+}
+
 /// The bytes are the header of a file of Ethernet frames.
 fn is_header(bytes: &[u8]) -> bool
     requires { length bytes.now ≡ 24 }
     ensures yes { result ≡ true → IsHeader bytes.now }
     ensures no { result ≡ false → IsHeader bytes.now → ⊥ }
 {
-    bytes[..8] == HEADER_FRONT[..] && bytes[20..] == HEADER_END[..]
+    same_bytes(&bytes[..8], &HEADER_FRONT) && same_bytes(&bytes[20..], &HEADER_END)
 }
 
 /// Reads the header of a file.
@@ -63,16 +70,16 @@ pub(crate) fn read_header<S: ScriptSource>(source: &mut S) -> Result<(), Explain
     Ok(())
 }
 
-/// The numbers that stand in front of a frame.
-fn numbers_of(head: &[u8]) -> EntryHead
-    requires { length head.now ≡ 16 }
-    ensures { head.now ≡ head_bytes result }
+/// The numbers that stand in front of a frame, in their first byte and the rest.
+fn numbers_of(first: u8, rest: &[u8]) -> EntryHead
+    requires { length rest.now ≡ 15 }
+    ensures { first ∷ rest.now ≡ head_bytes result }
 {
     EntryHead {
-        secs: u32::from_le_bytes(read_array(head, 0)),
-        micros: u32::from_le_bytes(read_array(head, 4)),
-        captured: u32::from_le_bytes(read_array(head, 8)),
-        length: u32::from_le_bytes(read_array(head, 12)),
+        secs: u32::from_le_bytes([first, rest[0], rest[1], rest[2]]),
+        micros: u32::from_le_bytes(read_array(rest, 3)),
+        captured: u32::from_le_bytes(read_array(rest, 7)),
+        length: u32::from_le_bytes(read_array(rest, 11)),
     }
 }
 
@@ -94,17 +101,18 @@ fn read_numbers<S: ScriptSource>(
     ensures quiet { (IsErrOf result Read → ⊥) → S.faults source.new ≡ S.faults source.old }
     ensures later { S.faults source.old ≤ S.faults source.new }
 {
-    let mut head = [0u8; HEAD_LEN];
-    if !fill(source, &mut head[..1])? {
+    let mut first = [0u8; 1];
+    if !fill(source, &mut first)? {
         return Ok(None);
     }
     if is_full {
         return Err(ExplainError::Limit);
     }
-    if !fill(source, &mut head[1..])? {
+    let mut rest = [0u8; HEAD_LEN - 1];
+    if !fill(source, &mut rest)? {
         return Err(ExplainError::Entry(offset));
     }
-    let numbers = numbers_of(&head);
+    let numbers = numbers_of(first[0], &rest);
     if numbers.captured as usize > FRAME_LEN {
         return Err(ExplainError::Entry(offset));
     }
