@@ -1,12 +1,17 @@
 //! Captures laid open: a capture file goes in, and a row comes out for each of its frames.
 #![tactic(auto)]
 
+mod dissecting;
 mod entry_reader;
 mod error;
 mod explaining;
 mod explanation;
 pub mod laws;
+mod layers;
+mod parts;
 
+pub use dissecting::{Dissection, dissect};
 pub use error::ExplainError;
 pub use explaining::explain;
 pub use explanation::{ExplainRow, Explanation};
+pub use parts::{AhList, AhPart, EspPart, Part, PartKind, PartList};
