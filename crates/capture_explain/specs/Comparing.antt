@@ -1,5 +1,5 @@
 -- What the two dissectors say of a frame.
-use Rattle.std.specs.Prelude.{◌≡◌, ℕ, ◌<◌, ◌≤◌, ◌↔◌, IsTrue, true, List, length, None, option_map}
+use Rattle.std.specs.Prelude.{◌≡◌, ℕ, ◌<◌, ◌≤◌, ◌↔◌, ◌⊎◌, IsTrue, true, List, length, None, option_map}
 use Rattle.ether_link.specs.declared.layout.PartKind.TheVariants.{Ethernet2}
 use Rattle.ether_lax.specs.Agreement.{Agree, FindsPlaces}
 use Rattle.ether_lax.specs.Headers.{HoldsHeaders, headers_in}
@@ -23,6 +23,10 @@ pub record AreCompared (frame : List ℕ) (compared : Compared) : Type 0 where
   pub esp_is : compared.esp ≡ esp_by packet.stop_err (option_map net_in packet.net)
 
 -- both refuse a frame of fewer than 14 bytes
-pub record IsCompared (frame : List ℕ) (compared : Compared) : Type 0 where
-  pub short : length frame < 14 → (compared.agree ≡ true) × (compared.esp ≡ None)
-  pub long : 14 ≤ length frame → AreCompared frame compared
+pub record AreRefused (frame : List ℕ) (compared : Compared) : Type 0 where
+  pub short : length frame < 14
+  pub agree_is : compared.agree ≡ true
+  pub esp_is : compared.esp ≡ None
+
+abbrev pub IsCompared : List ℕ → Compared → Type 0
+IsCompared frame compared = AreRefused frame compared ⊎ ((14 ≤ length frame) × AreCompared frame compared)

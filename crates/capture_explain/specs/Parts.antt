@@ -1,5 +1,5 @@
 -- What a row says of the parts of a frame, and of the headers of IPsec in it.
-use Rattle.std.specs.Prelude.{ℕ, ◌==◌, nat_lt, if◌then◌else◌, List, [], ◌∷◌, ◌++◌, length, map, slice_index, Option, Some, None, option_and_then}
+use Rattle.std.specs.Prelude.{ℕ, ◌-◌, ◌==◌, nat_lt, if◌then◌else◌, List, [], ◌∷◌, ◌++◌, length, map, slice_index, Option, Some, None, option_and_then}
 use Rattle.ether_link.specs.declared.layout.Place.{Place}
 use Rattle.ether_ip.specs.declared.ip.exts.Ipv6ExtensionSlice.TheVariants as extension
 use Rattle.ether_ip.specs.declared.transport.TransportSlice.TheVariants as transport
@@ -42,13 +42,13 @@ part_with place part =
 abbrev pub parts_at : List ℕ → List Place → List Part
 parts_at frame places = map (λ place. part_with place (part_at frame place)) places
 
--- the values of the bytes of an authentication header
+-- the values of the bytes of an authentication header, whose check value is what stands behind twelve bytes
 abbrev pub ah_part : List ℕ → AhPart
 ah_part header = record {
   next = slice_index header 0;
   spi = (ah.header_of header).security_parameters_index;
   sequence = (ah.header_of header).sequence_number;
-  icv_len = length (ah.header_of header).integrity_check_value;
+  icv_len = length header - 12;
 }
 
 -- the authentication header that a part is, if it is one

@@ -5,7 +5,7 @@ ghost use Rattle.capture_explain.specs.Comparing.{IsCompared};
 ghost use Rattle.capture_explain.specs.Dissected.{IsDissection};
 ghost use Rattle.capture_explain.specs.Parts.{esp_by, esp_in};
 
-use crate::layers::{Layers, layers_of};
+use crate::layers::layers_of;
 use crate::{AhList, EspPart, PartList};
 use ether_lax::{LaxIpPayloadSlice, LaxPacketHeaders, LaxSlicedPacket, agrees};
 use ether_link::IpNumber;
@@ -34,14 +34,14 @@ pub fn dissect(alloc: Global, frame: &[u8]) -> Result<Dissection, NoMemory>
     requires { length frame.now ≤ 262144 }
     ensures value { IfOk result (IsDissection frame.now) }
 {
-    let Layers { parts, ah, stop } = layers_of(alloc, frame)?;
-    let Compared { agree, esp } = compare(frame);
+    let layers = layers_of(alloc, frame)?;
+    let compared = compare(frame);
     Ok(Dissection {
-        parts,
-        stop,
-        agree,
-        ah,
-        esp,
+        parts: layers.parts,
+        stop: layers.stop,
+        agree: compared.agree,
+        ah: layers.ah,
+        esp: compared.esp,
     })
 }
 
@@ -56,18 +56,19 @@ struct Compared {
 fn compare(frame: &[u8]) -> Compared
     ensures { IsCompared frame.now result }
 {
-    match (
-        LaxSlicedPacket::from_ethernet(frame),
-        LaxPacketHeaders::from_ethernet(frame),
-    ) {
-        (Ok(packet), Ok(headers)) => Compared {
-            agree: agrees(&packet, &headers),
-            esp: esp_of(&packet),
-        },
-        _ => Compared {
-            agree: true,
-            esp: None,
-        },
+    let refused = Compared {
+        agree: true,
+        esp: None,
+    };
+    let Ok(packet) = LaxSlicedPacket::from_ethernet(frame) else {
+        return refused;
+    };
+    let Ok(headers) = LaxPacketHeaders::from_ethernet(frame) else {
+        return refused;
+    };
+    Compared {
+        agree: agrees(&packet, &headers),
+        esp: esp_of(&packet),
     }
 }
 

@@ -7,7 +7,7 @@ ghost use Rattle.capture_explain.specs.Rows.{IsRowOf};
 ghost use Rattle.capture_explain.specs.declared.explanation.ExplainRow.{ExplainRow};
 
 use crate::entry_reader::{EntryHead, FRAME_LEN, read_entry, read_header};
-use crate::{ExplainError, ExplainRow, Explanation};
+use crate::{ExplainError, ExplainRow, Explanation, dissect};
 use net_wire::NoMemory;
 use script_source::ScriptSource;
 use std::alloc::Global;
@@ -50,23 +50,35 @@ pub fn explain<S: ScriptSource>(
         let Some(head) = read_entry(source, is_full, offset, frame.as_mut_slice())? else {
             return Ok(());
         };
-        add_row(into, head, &frame.as_slice()[..head.captured as usize])?;
+        add_row(alloc, into, head, &frame.as_slice()[..head.captured as usize])?;
         offset += 16 + u64::from(head.captured);
     }
     unreachable!()
 }
 
 /// Adds the row of a frame.
-fn add_row(into: &mut Explanation, head: EntryHead, frame: &[u8]) -> Result<(), NoMemory>
-    requires { length frame.now ≡ head.captured }
+fn add_row(
+    alloc: Global,
+    into: &mut Explanation,
+    head: EntryHead,
+    frame: &[u8],
+) -> Result<(), NoMemory>
+    requires captured { length frame.now ≡ head.captured }
+    requires within { length frame.now ≤ 262144 }
     ensures ok { OnOk result ((row : ExplainRow) × IsRowOf (entry_with head frame.now) row
         × (into.new ≡ into.old ++ row ∷ [])) }
     ensures err { OnErr result (into.new ≡ into.old) }
 {
+    let dissection = dissect(alloc, frame)?;
     into.push(ExplainRow {
         secs: head.secs,
         micros: head.micros,
         captured: head.captured,
         length: head.length,
+        parts: dissection.parts,
+        stop: dissection.stop,
+        agree: dissection.agree,
+        ah: dissection.ah,
+        esp: dissection.esp,
     })
 }

@@ -1,4 +1,6 @@
 //! The rows of a capture.
+use crate::{AhList, EspPart, PartList};
+use ether_link::err::Layer;
 use net_wire::NoMemory;
 use std::alloc::Global;
 use std::marker::Model;
@@ -13,6 +15,16 @@ pub struct ExplainRow {
     pub captured: u32,
     /// How many bytes the frame had, as the entry says.
     pub length: u32,
+    /// The parts of the captured bytes, with their places.
+    pub parts: PartList,
+    /// The layer that stopped the dissection.
+    pub stop: Option<Layer>,
+    /// Whether both dissectors hold the same headers and the same stop.
+    pub agree: bool,
+    /// The authentication headers.
+    pub ah: AhList,
+    /// The header of an encapsulating security payload, where the whole IP packet carries one.
+    pub esp: Option<EspPart>,
 }
 
 /// The frames of a capture, a row each, in their order.
