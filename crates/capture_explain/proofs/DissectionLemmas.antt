@@ -1,5 +1,5 @@
 -- What both dissectors say of a frame, read off its one layout.
-use Rattle.std.proofs.Common.{◌≡◌, ℕ, ◌<◌, ◌≤◌, ◌⊎◌, inl, inr, Bool, true, false, List, [], ◌∷◌, length, Option, Some, None, ap, ap₂, sym, subst, ◌∙◌, refl, arith}
+use Rattle.std.proofs.Common.{◌≡◌, ℕ, ◌<◌, ◌≤◌, inl, inr, Bool, true, false, List, [], ◌∷◌, length, Option, Some, None, ap, ap₂, sym, subst, ◌∙◌, refl, arith}
 use Rattle.std.specs.Prelude.{◌↔◌, IsTrue, if◌then◌else◌, nat_lt, slice_range}
 use Rattle.std.proofs.lemmas.Bool.Decides.{nat_tests}
 use Rattle.ether_link.specs.Form.{or_else, len_error, refusal, no_map}
@@ -23,11 +23,10 @@ use Rattle.ether_lax.specs.Nets.{NetPart}
 use Rattle.ether_lax.specs.Sliced.{SlicedParts, sliced_in, net_of}
 use Rattle.ether_lax.specs.Steps.{begins_with}
 use Rattle.ether_lax.specs.Stops.{told}
-use Rattle.capture_explain.specs.Comparing.{AreRefused, AreCompared, IsCompared}
+use Rattle.capture_explain.specs.Comparing.{AreCompared, IsCompared}
 use Rattle.capture_explain.specs.Dissected.{IsLayoutOf, HasLayers, sliced_at, headers_at, Agrees, IsDissection}
 use Rattle.capture_explain.specs.Parts.{esp_by}
 use Rattle.capture_explain.specs.declared.dissecting.Compared.{Compared}
-use Rattle.capture_explain.specs.declared.dissecting.Dissection.{Dissection}
 use Rattle.capture_explain.specs.declared.layers.Layers.{Layers}
 
 -- a frame is refused where it has fewer than 14 bytes, and only there

@@ -1,11 +1,10 @@
 -- The parts of a frame, listed one after another.
-use Rattle.std.proofs.Common.{◌≡◌, ℕ, ◌<◌, List, [], ◌∷◌, ◌++◌, length, map, Option, Some, None, ap, sym, subst, ◌∙◌, refl, append_assoc, append-nil}
+use Rattle.std.proofs.Common.{◌≡◌, ℕ, List, [], ◌∷◌, ◌++◌, length, Option, Some, None, ap, sym, ◌∙◌, refl, append_assoc, append-nil}
 use Rattle.std.specs.Prelude.{slice_range}
 use Rattle.ether_link.specs.Form.{refusal}
 use Rattle.ether_link.specs.Layout.{header, place_of}
 use Rattle.ether_link.specs.declared.layout.PartKind.TheVariants.{Ethernet2}
 use Rattle.ether_link.specs.declared.layout.Place.{Place}
-use Rattle.ether_link.specs.declared.layout.Stop.{Stop}
 use Rattle.ether_link.specs.declared.layout.Turn.{Turn}
 use Rattle.ether_link.proofs.WalkLemmas.{IsWalk, begun, one_more, ended, stopped}
 use Rattle.ether_ip.specs.PacketGrammar.{packet_grammar}

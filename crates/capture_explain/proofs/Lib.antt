@@ -5,3 +5,5 @@ pub mod LayerLemmas
 pub mod PlaceLemmas
 pub mod ProgressLemmas
 pub mod ReadingLemmas
+pub mod OneFileLemmas
+pub mod WrittenLemmas

@@ -1,7 +1,9 @@
 pub mod Capture
 pub mod Comparing
 pub mod Dissected
+pub mod Examples
 pub mod Explained
+pub mod Laws
 pub mod Parts
 pub mod Places
 pub mod Reading

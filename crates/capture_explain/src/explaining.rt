@@ -50,7 +50,12 @@ pub fn explain<S: ScriptSource>(
         let Some(head) = read_entry(source, is_full, offset, frame.as_mut_slice())? else {
             return Ok(());
         };
-        add_row(alloc, into, head, &frame.as_slice()[..head.captured as usize])?;
+        add_row(
+            alloc,
+            into,
+            head,
+            &frame.as_slice()[..head.captured as usize],
+        )?;
         offset += 16 + u64::from(head.captured);
     }
     unreachable!()

@@ -4,6 +4,7 @@
 mod dissecting;
 mod entry_reader;
 mod error;
+pub mod examples;
 mod explaining;
 mod explanation;
 pub mod laws;
