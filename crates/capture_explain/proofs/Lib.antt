@@ -7,3 +7,4 @@ pub mod ProgressLemmas
 pub mod ReadingLemmas
 pub mod OneFileLemmas
 pub mod WrittenLemmas
+pub mod TextLemmas

@@ -10,9 +10,12 @@ mod explanation;
 pub mod laws;
 mod layers;
 mod parts;
+mod row_text;
+mod text;
 
 pub use dissecting::{Dissection, dissect};
 pub use error::ExplainError;
 pub use explaining::explain;
 pub use explanation::{ExplainRow, Explanation};
 pub use parts::{AhList, AhPart, EspPart, Part, PartKind, PartList};
+pub use row_text::explain_text;
