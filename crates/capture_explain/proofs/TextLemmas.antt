@@ -1,5 +1,5 @@
 -- Pieces that are handed to a sink one after another.
-use Rattle.std.proofs.Common.{◌≡◌, ℕ, ◌+◌, ◌<◌, ◌≤◌, Bool, List, [], ◌∷◌, ◌++◌, length, get_or, take, append_assoc, append-nil, Option, Result, Ok, subst, sym, ap, ◌∙◌, refl, arith, length-take}
+use Rattle.std.proofs.Common.{◌≡◌, ℕ, ◌+◌, ◌<◌, ◌≤◌, Bool, List, [], ◌∷◌, ◌++◌, length, get_or, take, append_assoc, append-nil, Option, Result, Ok, subst, sym, ap, ◌∙◌, arith, length-take}
 use Rattle.std.specs.List.{enumerate_from, flat_map}
 use Rattle.std.proofs.lemmas.List.{take_more, take_all}
 use Rattle.std.proofs.lemmas.Grind.{flat_map-append}

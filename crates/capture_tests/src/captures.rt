@@ -1,7 +1,10 @@
 //! What rows say, and which files are refused.
 use crate::files::{HEADER, answer, file_of};
-use capture_explain::{AhPart, EspPart, ExplainError, Explanation, Part, PartKind, explain};
+use capture_explain::{
+    AhPart, EspPart, ExplainError, Explanation, Part, PartKind, explain, explain_text,
+};
 use ether_link::err::Layer;
+use phy_layers::SureSink;
 use script_source::SureSource;
 use std::test::Fail;
 
@@ -18,6 +21,7 @@ const SECURED: [u8; 66] = [
 
 /// An entry without bytes, and one of three bytes, with a time before it.
 const EMPTY: [u8; 16] = [9, 0, 0, 0, 0, 0, 0, 0, 0, 0, 0, 0, 0, 0, 0, 0];
+
 const SHORT: [u8; 19] = [8, 0, 0, 0, 0, 0, 0, 0, 3, 0, 0, 0, 60, 0, 0, 0, 1, 2, 3];
 
 #[test]
@@ -26,9 +30,9 @@ fn a_row_has_the_parts_of_its_frame(rt: HostRuntime) -> Result<(), Fail> {
     let mut source = SureSource::new(file_of(alloc, &[&SECURED_HEAD, &SECURED, &EMPTY])?);
     let mut explanation = Explanation::new(alloc);
     assert!(rt; explain(alloc, &mut source, 2, &mut explanation).is_ok());
-    let [row, empty] = explanation.rows() else {
-        return Err(Fail);
-    };
+    let rows = explanation.rows();
+    assert!(rt; rows.len() == 2);
+    let (row, empty) = (&rows[0], &rows[1]);
     assert!(rt; (row.secs, row.micros, row.captured, row.length) == (1, 2, 66, 70));
     let want = [
         (PartKind::Ethernet, 0, 14),
@@ -37,7 +41,15 @@ fn a_row_has_the_parts_of_its_frame(rt: HostRuntime) -> Result<(), Fail> {
     ];
     assert!(rt; row.parts.as_slice().len() == 3);
     for (part, (kind, header, window)) in row.parts.as_slice().iter().zip(want) {
-        assert!(rt; *part == Part { kind, header, window, end: 66 });
+        assert!(rt;
+            *part
+                == Part {
+                    kind,
+                    header,
+                    window,
+                    end: 66
+                }
+        );
     }
     let ah = AhPart {
         next: 50,
@@ -56,6 +68,26 @@ fn a_row_has_the_parts_of_its_frame(rt: HostRuntime) -> Result<(), Fail> {
     Ok(())
 }
 
+/// The lines of that frame, and of one without bytes.
+const LINES: &str =
+    "0 1.000002 frame 66/70 ethernet@0-14-66,ipv4@14-34-66,auth@34-58-66 stop=none agree=1
+  ah 50 8179b705 1 12
+  esp fb5128a6 2
+1 9.000000 frame 0/0 none stop=ethernet agree=1
+";
+
+#[test]
+fn a_row_prints_as_a_line_and_a_line_a_header(rt: HostRuntime) -> Result<(), Fail> {
+    let alloc = rt.alloc();
+    let mut source = SureSource::new(file_of(alloc, &[&SECURED_HEAD, &SECURED, &EMPTY])?);
+    let mut explanation = Explanation::new(alloc);
+    assert!(rt; explain(alloc, &mut source, 2, &mut explanation).is_ok());
+    let mut sink = SureSink::new(alloc);
+    assert!(rt; explain_text(&explanation, &mut sink).is_ok());
+    assert!(rt; sink.bytes() == LINES.as_bytes());
+    Ok(())
+}
+
 #[test]
 fn a_file_that_is_cut_is_refused_where_it_is_cut(rt: HostRuntime) -> Result<(), Fail> {
     let alloc = rt.alloc();
@@ -69,7 +101,10 @@ fn a_file_that_is_cut_is_refused_where_it_is_cut(rt: HostRuntime) -> Result<(), 
             41..59 => (Err(ExplainError::Entry(40)), 1),
             _ => (Ok(()), 2),
         };
-        assert!(rt; answer(alloc, &file.as_slice()[..len], 7, &[], 2)? == want, "{len}");
+        assert!(rt;
+            answer(alloc, &file.as_slice()[..len], 7, &[], 2)? == want,
+            "{len}"
+        );
     }
     Ok(())
 }
@@ -77,10 +112,10 @@ fn a_file_that_is_cut_is_refused_where_it_is_cut(rt: HostRuntime) -> Result<(), 
 #[test]
 fn one_byte_behind_the_last_frame_is_too_much(rt: HostRuntime) -> Result<(), Fail> {
     let alloc = rt.alloc();
-    let file = file_of(alloc, &[&EMPTY, &SHORT])?;
-    let limit = (Err(ExplainError::Limit), 1);
-    assert!(rt; answer(alloc, &file.as_slice()[..41], 1, &[], 1)? == limit);
-    assert!(rt; answer(alloc, &file.as_slice()[..40], 1, &[], 1)? == (Ok(()), 1));
+    let whole = file_of(alloc, &[&EMPTY])?;
+    let longer = file_of(alloc, &[&EMPTY, &[7]])?;
+    assert!(rt; answer(alloc, whole.as_slice(), 1, &[], 1)? == (Ok(()), 1));
+    assert!(rt; answer(alloc, longer.as_slice(), 1, &[], 1)? == (Err(ExplainError::Limit), 1));
     Ok(())
 }
 
@@ -91,15 +126,18 @@ fn other_files_are_refused(rt: HostRuntime) -> Result<(), Fail> {
     let others = [
         (0, 0xa1), // big-endian
         (0, 0x4d), // nanoseconds, in part
-        (4, 3),    // version 3.4
-        (6, 3),    // version 2.3
+        (4, 3), // version 3.4
+        (6, 3), // version 2.3
         (20, 101), // raw IP
-        (23, 1),   // a class of link types
+        (23, 1), // a class of link types
     ];
     for (at, byte) in others {
         let mut header = HEADER;
         header[at] = byte;
-        assert!(rt; answer(alloc, &header, 24, &[], 1)? == (Err(ExplainError::Header), 0), "{at}");
+        assert!(rt;
+            answer(alloc, &header, 24, &[], 1)? == (Err(ExplainError::Header), 0),
+            "{at}"
+        );
     }
     // A captured length that no entry has.
     let long = [0, 0, 0, 0, 0, 0, 0, 0, 1, 0, 4, 0, 1, 0, 4, 0];

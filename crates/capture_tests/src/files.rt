@@ -1,4 +1,6 @@
 //! Captures made by hand.
+ghost use Rattle.std.specs.Prelude.{◌≤◌};
+
 use capture_explain::{ExplainError, Explanation, explain};
 use script_source::MemorySource;
 use std::alloc::Global;
