@@ -3,6 +3,7 @@
 #![tactic(auto)]
 
 pub mod arriving;
+pub mod captures;
 pub mod cuts;
 pub mod dissection;
 pub mod disturbing;

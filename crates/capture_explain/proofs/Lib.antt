@@ -1,0 +1,10 @@
+pub mod CaptureLemmas
+pub mod CauseLemmas
+pub mod DissectionLemmas
+pub mod LayerLemmas
+pub mod PlaceLemmas
+pub mod ProgressLemmas
+pub mod ReadingLemmas
+pub mod OneFileLemmas
+pub mod WrittenLemmas
+pub mod TextLemmas

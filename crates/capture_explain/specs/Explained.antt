@@ -1,0 +1,87 @@
+-- What an explanation of a capture leaves, whatever it answers.
+use Rattle.std.specs.Prelude.{◌≡◌, ℕ, ◌<◌, ◌≤◌, ◌⊎◌, List, [], ◌++◌, Option, length, IfSome, Result, IsOk}
+use Rattle.std.specs.Result.{IsErrOf}
+use Rattle.std.specs.Io.KnownBytes.{Consumes, IsAtEnd}
+use Rattle.wire_base.specs.Causes.{IsRisen}
+use Rattle.capture_explain.specs.Capture.{CaptureEntry, entry_bytes, IsEntry, IsFront, IsCaptureFile, HasNoHeader, IsBrokenAt, IsOverLimit}
+use Rattle.capture_explain.specs.Reading.{CutsHeader, EndsEntry}
+use Rattle.capture_explain.specs.Rows.{AreRowsOf}
+use Rattle.capture_explain.specs.declared.error.ExplainError.{ExplainError}
+use Rattle.capture_explain.specs.declared.error.ExplainError.TheVariants.{Header, Entry, Limit, Read, NoMemory}
+use Rattle.capture_explain.specs.declared.explanation.ExplainRow.{ExplainRow}
+
+-- A capture was read to its end. Where the source told its bytes, they were a capture file of at most `max` entries,
+-- and these are the rows of its entries.
+pub record Explained (max : ℕ) (left_old left_new : Option (List ℕ)) (rows : List ExplainRow) : Type 0 where
+  pub entries : List CaptureEntry
+  pub file : IfSome left_old (λ bytes. IsCaptureFile max bytes entries)
+  pub few : length entries ≤ max
+  pub are_rows : AreRowsOf entries rows
+  pub ended : IsAtEnd left_new
+
+-- what was taken from the source: a header and at most `max` entries, which have these rows, and a part behind them
+pub record Taken (max : ℕ) (left_old left_new : Option (List ℕ)) (rows : List ExplainRow) : Type 0 where
+  pub entries : List CaptureEntry
+  pub front : List ℕ
+  pub part : List ℕ
+  pub is_front : IsFront entries front
+  pub few : length entries ≤ max
+  pub are_rows : AreRowsOf entries rows
+  pub took : Consumes left_old left_new (front ++ part)
+
+-- it ended behind some entries
+pub record Stopped (max : ℕ) (left_old left_new : Option (List ℕ)) (rows : List ExplainRow)
+    (Ends : Taken max left_old left_new rows → Type 0) : Type 0 where
+  pub taken : Taken max left_old left_new rows
+  pub ends : Ends taken
+
+-- no byte was taken
+pub record IsUntouched (left_old left_new : Option (List ℕ)) (rows : List ExplainRow) : Type 0 where
+  pub none : rows ≡ []
+  pub stays : left_new ≡ left_old
+
+-- the last entry that was taken has no row
+pub record LacksRow (max : ℕ) (left_old left_new : Option (List ℕ)) (rows : List ExplainRow) : Type 0 where
+  pub entries : List CaptureEntry
+  pub front : List ℕ
+  pub entry : CaptureEntry
+  pub is_front : IsFront entries front
+  pub few : length entries < max
+  pub fits : IsEntry entry
+  pub are_rows : AreRowsOf entries rows
+  pub took : Consumes left_old left_new (front ++ entry_bytes entry)
+
+-- the header is not read whole, and there is no row
+pub record LacksHeader (error : ExplainError) (left_old left_new : Option (List ℕ)) (rows : List ExplainRow)
+    : Type 0 where
+  pub none : rows ≡ []
+  pub cuts : CutsHeader error left_old left_new
+
+-- What was taken and which rows there are where it did not end well, by its answer.
+abbrev pub Leaves : ℕ → Option (List ℕ) → Option (List ℕ) → List ExplainRow → ExplainError → Type 0
+Leaves max left_old left_new rows Header = LacksHeader Header left_old left_new rows
+Leaves max left_old left_new rows (Entry offset) = Stopped max left_old left_new rows
+    (λ taken. (length taken.entries < max) × (offset ≡ length taken.front)
+    × EndsEntry (Entry offset) left_new taken.part)
+Leaves max left_old left_new rows Limit = Stopped max left_old left_new rows
+    (λ taken. (length taken.entries ≡ max) × EndsEntry Limit left_new taken.part)
+Leaves max left_old left_new rows Read = LacksHeader Read left_old left_new rows
+    ⊎ Stopped max left_old left_new rows
+    (λ taken. (0 < length taken.part → length taken.entries < max) × EndsEntry Read left_new taken.part)
+Leaves max left_old left_new rows NoMemory =
+    IsUntouched left_old left_new rows ⊎ LacksRow max left_old left_new rows
+
+-- Why it did not end well, by its answer: the bytes of the file, or a count of faults that rose; want of memory is
+-- free. The count did not change otherwise.
+abbrev pub HasCause : ℕ → Option (List ℕ) → ℕ → ℕ → ExplainError → Type 0
+HasCause max left before after Header = IfSome left HasNoHeader × (after ≡ before)
+HasCause max left before after (Entry offset) =
+    IfSome left (λ bytes. IsBrokenAt max bytes offset) × (after ≡ before)
+HasCause max left before after Limit = IfSome left (IsOverLimit max) × (after ≡ before)
+HasCause max left before after Read = IsRisen before after
+HasCause max left before after NoMemory = after ≡ before
+
+-- A capture file of at most `max` entries, with no fault of the source, is explained unless memory runs out.
+abbrev pub Completes : ℕ → Option (List ℕ) → ℕ → ℕ → Result (Unit {0}) ExplainError → Type 0
+Completes max left before after result = IfSome left (λ bytes. (entries : List CaptureEntry)
+    → IsCaptureFile max bytes entries → ¬ IsRisen before after → IsOk result ⊎ IsErrOf result NoMemory)

@@ -1,0 +1,12 @@
+pub mod Capture
+pub mod Comparing
+pub mod Dissected
+pub mod Examples
+pub mod ExplainText
+pub mod Explained
+pub mod Laws
+pub mod Parts
+pub mod Places
+pub mod Reading
+pub mod Rows
+pub mod Text
