@@ -9,7 +9,7 @@ use Rattle.net_host.proofs.SettingsLemmas.{defaults_accepted}
 use Rattle.net_wire.specs.declared.address.EthernetAddress.{EthernetAddress}
 use Rattle.host_top.specs.declared.command.Asked.{Asked}
 use Rattle.host_top.specs.declared.command.Command.{Command}
-use Rattle.host_top.specs.declared.command.Command.TheVariants.{Run, Make, Help, Disturb}
+use Rattle.host_top.specs.declared.command.Command.TheVariants.{Run, Make, Explain, Help, Disturb}
 use Rattle.host_top.specs.declared.command.Keyword.{Keyword}
 use Rattle.host_top.specs.declared.command.Keyword.TheVariants as keyword
 use Rattle.host_top.specs.declared.command.MakeCommand.{MakeCommand}
@@ -17,10 +17,12 @@ use Rattle.host_top.specs.declared.command.RunCommand.{RunCommand}
 use Rattle.host_top.specs.declared.setting.RunSettings.{RunSettings}
 use Rattle.host_top.specs.declared.disturb_command.DisturbCommand.{DisturbCommand}
 use Rattle.host_top.specs.Disturb.{WritesDisturb}
+use Rattle.host_top.specs.declared.explain_command.ExplainCommand.{ExplainCommand}
+use Rattle.host_top.specs.Explain.{WritesExplain, IsFrameCountWord}
 use Rattle.host_top.specs.RunWords.{WritesRun, NamesRun, IsRunnable, settings_named}
 use Rattle.host_top.specs.MakeWords.{WritesMake, NamesMake, run_of_make}
 use Rattle.host_top.specs.Command.{NameHelp, IsHelpWord, IsKeyword, NameWork, NameLiveWork, CanBeLive, Names, AreNamed, command_asked, IsTaken, NamesOne, IsCommand}
-use Rattle.host_top.specs.HostMain.{Ask, AskForNoWork}
+use Rattle.host_top.specs.HostMain.{Ask, AskForNoWork, AskToExplain}
 use Rattle.host_top.specs.Setting.{Sets}
 use Rattle.host_top.proofs.OneSettingLemmas.{sets_one}
 use Rattle.host_top.proofs.SettingWordLemmas.{mtu_in_range}
@@ -72,6 +74,12 @@ make_is_no_help =
 disturb_is_no_help : IsHelpWord (codes "disturb") → ⊥
 disturb_is_no_help = help_key (codes "disturb") (λ is. cc) (λ is. cc) (λ is. cc)
 
+explain_is_no_help : IsHelpWord (codes "explain") → ⊥
+explain_is_no_help =
+    help_key (codes "explain") (other_letter 0 (codes "explain") (codes "help") (λ (e : 101 ≡ 104). omega (arith, e)))
+    (other_letter 0 (codes "explain") (codes "--help") (λ (e : 101 ≡ 45). omega (arith, e)))
+    (other_letter 0 (codes "explain") (codes "-h") (λ (e : 101 ≡ 45). omega (arith, e)))
+
 -- the first of the words is the name of a command
 abbrev IsFirst : {X : Type 0} → (X → List ℕ) → List X → List ℕ → Type 0
 IsFirst {X} f words key = (word : List ℕ) (behind : List (List ℕ)) → map f words ≡ word ∷ behind → word ≡ key
@@ -90,6 +98,8 @@ pub unwritten : {X : Type 0} (f : X → List ℕ) (words : List X) → ((run : R
 unwritten f words none first (Run run) named =
     none run (subst (λ l. WritesRun l run) (moved_behind f words (codes "run") named.behind named.are) named.write)
 unwritten f words none first (Make make) named = absurd (cc (first (codes "make") named.behind named.are))
+unwritten f words none first (Explain explain) named =
+    other_letter 0 (codes "explain") (codes "run") (λ (e : 101 ≡ 114). omega (arith, e)) (first (codes "explain") named.behind named.are)
 unwritten f words none first (Disturb disturb) named = absurd (cc (first (codes "disturb") named.behind named.are))
 unwritten f words none first Help named =
     other_than (codes "run") named.word run_is_no_help named.asks (first named.word [] named.are)
@@ -99,6 +109,8 @@ pub unmade : {X : Type 0} (f : X → List ℕ) (words : List X) → ((make : Mak
 unmade f words none first (Run run) named = absurd (cc (first (codes "run") named.behind named.are))
 unmade f words none first (Make make) named =
     none make (subst (λ l. WritesMake l make) (moved_behind f words (codes "make") named.behind named.are) named.write)
+unmade f words none first (Explain explain) named =
+    other_letter 0 (codes "explain") (codes "make") (λ (e : 101 ≡ 109). omega (arith, e)) (first (codes "explain") named.behind named.are)
 unmade f words none first (Disturb disturb) named = absurd (cc (first (codes "disturb") named.behind named.are))
 unmade f words none first Help named =
     other_than (codes "make") named.word make_is_no_help named.asks (first named.word [] named.are)
@@ -108,6 +120,8 @@ pub undisturbed : {X : Type 0} (f : X → List ℕ) (words : List X)
     → IsFirst f words (codes "disturb") → (command : Command) → NameWork (map f words) command → ⊥
 undisturbed f words none first (Run run) named = absurd (cc (first (codes "run") named.behind named.are))
 undisturbed f words none first (Make make) named = absurd (cc (first (codes "make") named.behind named.are))
+undisturbed f words none first (Explain explain) named =
+    other_letter 0 (codes "explain") (codes "disturb") (λ (e : 101 ≡ 100). omega (arith, e)) (first (codes "explain") named.behind named.are)
 undisturbed f words none first (Disturb disturb) named =
     none disturb (subst (λ l. WritesDisturb l disturb) (moved_behind f words (codes "disturb") named.behind named.are) named.write)
 undisturbed f words none first Help named =
@@ -140,6 +154,8 @@ unworded words rest word are none (Run run) named = none keyword.Run (one_first 
 unworded words rest word are none (Make make) named = none keyword.Make (one_first words word (codes "make") rest named.behind are named.are)
 unworded words rest word are none (Disturb disturb) named =
     none keyword.Disturb (one_first words word (codes "disturb") rest named.behind are named.are)
+unworded words rest word are none (Explain explain) named =
+    none keyword.Explain (one_first words word (codes "explain") rest named.behind are named.are)
 unworded words rest word are none Help named =
     none keyword.Help (subst IsHelpWord (one_first words named.word word [] rest named.are are) named.asks)
 
@@ -152,7 +168,23 @@ unhelped words word more rest are asks (Make make) named =
     make_is_no_help (subst IsHelpWord (one_first words word (codes "make") (more ∷ rest) named.behind are named.are) asks)
 unhelped words word more rest are asks (Disturb disturb) named =
     disturb_is_no_help (subst IsHelpWord (one_first words word (codes "disturb") (more ∷ rest) named.behind are named.are) asks)
+unhelped words word more rest are asks (Explain explain) named =
+    explain_is_no_help (subst IsHelpWord (one_first words word (codes "explain") (more ∷ rest) named.behind are named.are) asks)
 unhelped words word more rest are asks Help named = absurd (cc (are, named.are))
+
+pub unexplained : {X : Type 0} (f : X → List ℕ) (words : List X)
+    → ((explain : ExplainCommand) → WritesExplain (behind_first f words) explain → ⊥)
+    → IsFirst f words (codes "explain") → (command : Command) → NameWork (map f words) command → ⊥
+unexplained f words none first (Run run) named =
+    other_letter 0 (codes "run") (codes "explain") (λ (e : 114 ≡ 101). omega (arith, e)) (first (codes "run") named.behind named.are)
+unexplained f words none first (Make make) named =
+    other_letter 0 (codes "make") (codes "explain") (λ (e : 109 ≡ 101). omega (arith, e)) (first (codes "make") named.behind named.are)
+unexplained f words none first (Disturb disturb) named =
+    other_letter 0 (codes "disturb") (codes "explain") (λ (e : 100 ≡ 101). omega (arith, e)) (first (codes "disturb") named.behind named.are)
+unexplained f words none first (Explain explain) named =
+    none explain (subst (λ l. WritesExplain l explain) (moved_behind f words (codes "explain") named.behind named.are) named.write)
+unexplained f words none first Help named =
+    other_than (codes "explain") named.word explain_is_no_help named.asks (first named.word [] named.are)
 
 abbrev address_made : List ℕ → EthernetAddress
 address_made bytes = record { 0 = bytes }
@@ -187,6 +219,19 @@ writes_one_make words one other first second =
 help_against : (words : List (List ℕ)) (key : List ℕ) (rest : List (List ℕ)) → (IsHelpWord key → ⊥) → NameHelp words
     → words ≡ key ∷ rest → ⊥
 help_against words key rest other help are = other_than key help.word other help.asks (cc (help.are, are))
+
+explain_made : ℕ → ExplainCommand
+explain_made count = record { max_frames = count }
+
+writes_one_explain : (words : List (List ℕ)) (one other : ExplainCommand) → WritesExplain words one → WritesExplain words other → one ≡ other
+unfolding explain_made
+writes_one_explain words one other first second =
+    let count : one.max_frames ≡ other.max_frames = cc (first.are, second.are, first.max.writes.value, second.max.writes.value) in
+    ap explain_made count
+
+-- words with keys of other letters
+keys_apart : (words : List (List ℕ)) (a b : List ℕ) (xs ys : List (List ℕ)) → (get_or a 0 0 ≡ get_or b 0 0 → ⊥) → words ≡ a ∷ xs → words ≡ b ∷ ys → ⊥
+keys_apart words a b xs ys differ one other = other_letter 0 a b differ (one_first words a b xs ys one other)
 
 disturb_made : RunCommand → ℕ → ℕ → ℕ → DisturbCommand
 disturb_made run seed drop corrupt = record { run = run; fault_seed = seed; drop_chance = drop; corrupt_chance = corrupt }
@@ -227,6 +272,23 @@ one_work words (Make one) (Disturb other) first second = absurd (cc (first.are, 
 one_work words (Disturb one) (Run other) first second = absurd (cc (first.are, second.are))
 one_work words (Disturb one) (Make other) first second = absurd (cc (first.are, second.are))
 one_work words Help Help first second = refl
+one_work words (Explain one) (Explain other) first second =
+    let behind_explain : second.behind ≡ first.behind = cc (first.are, second.are) in
+    ap Explain (writes_one_explain first.behind one other first.write (subst (λ l. WritesExplain l other) behind_explain second.write))
+one_work words (Run one) (Explain other) first second =
+    absurd (keys_apart words (codes "run") (codes "explain") first.behind second.behind (λ (e : 114 ≡ 101). omega (arith, e)) first.are second.are)
+one_work words (Make one) (Explain other) first second =
+    absurd (keys_apart words (codes "make") (codes "explain") first.behind second.behind (λ (e : 109 ≡ 101). omega (arith, e)) first.are second.are)
+one_work words (Disturb one) (Explain other) first second =
+    absurd (keys_apart words (codes "disturb") (codes "explain") first.behind second.behind (λ (e : 100 ≡ 101). omega (arith, e)) first.are second.are)
+one_work words (Explain one) (Run other) first second =
+    absurd (keys_apart words (codes "explain") (codes "run") first.behind second.behind (λ (e : 101 ≡ 114). omega (arith, e)) first.are second.are)
+one_work words (Explain one) (Make other) first second =
+    absurd (keys_apart words (codes "explain") (codes "make") first.behind second.behind (λ (e : 101 ≡ 109). omega (arith, e)) first.are second.are)
+one_work words (Explain one) (Disturb other) first second =
+    absurd (keys_apart words (codes "explain") (codes "disturb") first.behind second.behind (λ (e : 101 ≡ 100). omega (arith, e)) first.are second.are)
+one_work words (Explain one) Help first second = absurd (help_against words (codes "explain") first.behind explain_is_no_help second first.are)
+one_work words Help (Explain other) first second = absurd (help_against words (codes "explain") second.behind explain_is_no_help first second.are)
 one_work words (Run one) Help first second = absurd (help_against words (codes "run") first.behind run_is_no_help second first.are)
 one_work words (Make one) Help first second = absurd (help_against words (codes "make") first.behind make_is_no_help second first.are)
 one_work words (Disturb one) Help first second =
@@ -248,6 +310,9 @@ run_is_not_live = other_letter 0 (codes "run") (codes "live") (λ (e : 114 ≡ 1
 make_is_not_live : codes "make" ≡ codes "live" → ⊥
 make_is_not_live = other_letter 0 (codes "make") (codes "live") (λ (e : 109 ≡ 108). omega (arith, e))
 
+explain_is_not_live : codes "explain" ≡ codes "live" → ⊥
+explain_is_not_live = other_letter 0 (codes "explain") (codes "live") (λ (e : 101 ≡ 108). omega (arith, e))
+
 disturb_is_not_live : codes "disturb" ≡ codes "live" → ⊥
 disturb_is_not_live = other_letter 0 (codes "disturb") (codes "live") (λ (e : 100 ≡ 108). omega (arith, e))
 
@@ -256,6 +321,8 @@ pub live_is_no_work : (words rest : List (List ℕ)) (command : Command) → wor
 live_is_no_work words rest (Run run) are named = run_is_not_live (one_first words (codes "run") (codes "live") named.behind rest named.are are)
 live_is_no_work words rest (Make make) are named = make_is_not_live (one_first words (codes "make") (codes "live") named.behind rest named.are are)
 live_is_no_work words rest (Disturb disturb) are named = disturb_is_not_live (one_first words (codes "disturb") (codes "live") named.behind rest named.are are)
+live_is_no_work words rest (Explain explain) are named =
+    explain_is_not_live (one_first words (codes "explain") (codes "live") named.behind rest named.are are)
 live_is_no_work words rest Help are named = help_against words (codes "live") rest live_is_no_help named are
 
 -- words name one command at most
@@ -274,6 +341,7 @@ pub unlive : {X : Type 0} (f : X → List ℕ) (words : List X)
 unlive f words none first (Run run, inl named) = run_is_not_live (first (codes "run") named.behind named.are)
 unlive f words none first (Make make, inl named) = make_is_not_live (first (codes "make") named.behind named.are)
 unlive f words none first (Disturb disturb, inl named) = disturb_is_not_live (first (codes "disturb") named.behind named.are)
+unlive f words none first (Explain explain, inl named) = explain_is_not_live (first (codes "explain") named.behind named.are)
 unlive f words none first (Help, inl named) =
     other_than (codes "live") named.word live_is_no_help named.asks (first named.word [] named.are)
 unlive f words none first (command, inr named) =
@@ -312,6 +380,7 @@ makeable {words} {make} named = record { individual = refl; mtu = tt; some = nam
 work_command : (words : List (List ℕ)) (command : Command) → NameWork words command → IsCommand command
 work_command words (Run run) named = runnable named
 work_command words (Make make) named = makeable named
+work_command words (Explain explain) named = record { some = named.write.max.some; limit = named.write.max.limit }
 work_command words Help named = tt
 work_command words (Disturb disturb) named = record {
   run = record {
@@ -341,6 +410,11 @@ pub asked_by : (words : List (List ℕ)) (asked : Option Asked) → IfSome asked
     → Ask words (command_asked asked)
 asked_by words None found refuses = refuses
 asked_by words (Some asked) found refuses = are_names words asked found
+
+-- words that name an explanation ask for that
+pub explain_asked : (words : List (List ℕ)) (asked : Option Command) (named : AskToExplain words) → Ask words asked → asked ≡ Some (Explain named.0)
+explain_asked words None named none = absurd (none (Explain named.0, inl named.1))
+explain_asked words (Some command) named asks = ap Some (names_one words command (Explain named.0) asks (inl named.1))
 
 mtu_or_default : (value : Option ℕ) → IfSome value (λ bytes. (576 ≤ bytes) × (bytes ≤ 1500))
     → (576 ≤ unwrap_or value 1500) × (unwrap_or value 1500 ≤ 1500)

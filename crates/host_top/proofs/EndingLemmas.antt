@@ -10,13 +10,15 @@ use Rattle.net_host.specs.declared.report.Row.{Row}
 use Rattle.net_host.specs.Outside.{Outside}
 use Rattle.net_host.specs.Run.{Task, HasFewWords}
 use Rattle.host_top.specs.declared.command.Command.{Command}
-use Rattle.host_top.specs.declared.command.Command.TheVariants.{Run, Make, Help, Disturb}
+use Rattle.host_top.specs.declared.command.Command.TheVariants.{Run, Make, Explain, Help, Disturb}
 use Rattle.host_top.specs.declared.ending.Ending.{Ending}
-use Rattle.host_top.specs.declared.ending.Ending.TheVariants.{Done, Refused, Script, Limit, Read, Capture, NoMemory}
+use Rattle.host_top.specs.declared.ending.Ending.TheVariants.{Done, Refused, Script, Limit, Entry, FrameLimit, Read, Capture, NoMemory}
 use Rattle.host_top.specs.Command.{IsTaken}
 use Rattle.host_top.specs.Ending.{status_of, status_after}
 use Rattle.host_top.specs.HostMain.{ForNamed, IsComplete, EndedAs, Ask, HasEnded}
-use Rattle.host_top.specs.Status.{ComesExactly, IsStatusOf}
+use Rattle.capture_explain.specs.Capture.{CaptureEntry, IsCaptureFile}
+use Rattle.host_top.specs.Status.{ComesExactly, IsStatusOf, IsUnlessNoMemory}
+use Rattle.host_top.proofs.ExplainLemmas.{explain_complete, explain_unrefused}
 
 -- how what the words ask for ended, what the output answered, and the status
 pub record Answered (words : List (List ℕ)) (asked : Option Command) (before after : Outside) (report : List Row) (ending : Ending)
@@ -31,10 +33,14 @@ not_refused : (command : Command) (before after : Outside) (report : List Row) (
 not_refused command before after report Done text ended is = omega arith
 not_refused (Run run) before after report Refused text ended is = ended.ran
 not_refused (Make make) before after report Refused text ended is = ended.may
+not_refused (Explain explain) before after report Refused text ended is =
+    explain_unrefused explain.max_frames before.left after.left before.read_faults after.read_faults ended.rows Refused ended.explains is
 not_refused Help before after report Refused text ended is = omega (arith, ap status_of ended.done)
 not_refused (Disturb disturb) before after report Refused text ended is = ended.ran
 not_refused command before after report (Script offset) text ended is = omega arith
 not_refused command before after report Limit text ended is = omega arith
+not_refused command before after report (Entry offset) text ended is = omega arith
+not_refused command before after report FrameLimit text ended is = omega arith
 not_refused command before after report Read text ended is = omega arith
 not_refused command before after report Capture text ended is = omega arith
 not_refused command before after report NoMemory text ended is = omega arith
@@ -100,6 +106,8 @@ complete_of (Run run) before after report Refused text result ended is read capt
 complete_of (Run run) before after report (Script offset) text result ended is read capture =
     broken_script before.left run.max_events offset result ended.ran.1.0 is
 complete_of (Run run) before after report Limit text result ended is read capture = long_script before.left run.max_events result ended.ran.1.0 is
+complete_of (Run run) before after report (Entry offset) text result ended is read capture = absurd ended.ran
+complete_of (Run run) before after report FrameLimit text result ended is read capture = absurd ended.ran
 complete_of (Run run) before after report Read text result ended is read capture = absurd (read ended.ran.1.0)
 complete_of (Run run) before after report Capture text result ended is read capture = absurd (capture ended.ran.1.0)
 complete_of (Run run) before after report NoMemory text result ended is read capture = no_memory before.left run.max_events result is
@@ -107,9 +115,13 @@ complete_of (Make make) before after report Done text result ended is read captu
 complete_of (Make make) before after report Refused text result ended is read capture = absurd ended.may
 complete_of (Make make) before after report (Script offset) text result ended is read capture = absurd ended.may
 complete_of (Make make) before after report Limit text result ended is read capture = absurd ended.may
+complete_of (Make make) before after report (Entry offset) text result ended is read capture = absurd ended.may
+complete_of (Make make) before after report FrameLimit text result ended is read capture = absurd ended.may
 complete_of (Make make) before after report Read text result ended is read capture = absurd ended.may
 complete_of (Make make) before after report Capture text result ended is read capture = absurd (capture ended.left.left.1.0)
 complete_of (Make make) before after report NoMemory text result ended is read capture = inr is
+complete_of (Explain explain) before after report ending text result ended is read capture =
+    explain_complete explain.max_frames before.left after.left before.read_faults after.read_faults ended.rows ending result ended.explains is read
 complete_of Help before after report ending text result ended is read capture = inl (is ∙ ap status_of ended.done)
 complete_of (Disturb disturb) before after report Done text result ended is read capture =
     valid_script before.left disturb.run.max_events ended.ran.0.events result ended.ran.0.script is
@@ -118,14 +130,22 @@ complete_of (Disturb disturb) before after report (Script offset) text result en
     broken_script before.left disturb.run.max_events offset result ended.ran.1.0 is
 complete_of (Disturb disturb) before after report Limit text result ended is read capture =
     long_script before.left disturb.run.max_events result ended.ran.1.0 is
+complete_of (Disturb disturb) before after report (Entry offset) text result ended is read capture = absurd ended.ran
+complete_of (Disturb disturb) before after report FrameLimit text result ended is read capture = absurd ended.ran
 complete_of (Disturb disturb) before after report Read text result ended is read capture = absurd (read ended.ran.1.0)
 complete_of (Disturb disturb) before after report Capture text result ended is read capture = absurd (capture ended.ran.1.0)
 complete_of (Disturb disturb) before after report NoMemory text result ended is read capture =
     no_memory before.left disturb.run.max_events result is
 
+unless_no_memory : (max : ℕ) (left : Option (List ℕ)) (result : ℕ) → result ≡ 7
+    → IfSome left (λ bytes. (entries : List CaptureEntry) → IsCaptureFile max bytes entries → IsUnlessNoMemory 0 result)
+unless_no_memory max None result is = tt
+unless_no_memory max (Some bytes) result is = λ entries file. inr is
+
 complete_at_7 : (command : Command) (before : Outside) (result : ℕ) → result ≡ 7 → IsComplete command before result
 complete_at_7 (Run run) before result is = no_memory before.left run.max_events result is
 complete_at_7 (Make make) before result is = inr is
+complete_at_7 (Explain explain) before result is = unless_no_memory explain.max_frames before.left result is
 complete_at_7 Help before result is = inr is
 complete_at_7 (Disturb disturb) before result is = no_memory before.left disturb.run.max_events result is
 

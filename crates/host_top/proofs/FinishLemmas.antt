@@ -5,12 +5,16 @@ use Rattle.phy_layers.specs.Sink.{Took}
 use Rattle.script_source.specs.declared.source.ScriptSource as script_source
 use Rattle.net_host.specs.declared.report.Row.{Row}
 use Rattle.net_host.specs.Outside.{Outside, outside_of}
-use Rattle.host_top.specs.declared.command.Command.TheVariants.{Run, Make, Help, Disturb}
+use Rattle.host_top.specs.declared.command.Command.TheVariants.{Run, Make, Explain, Help, Disturb}
 use Rattle.host_top.specs.declared.command.MakeCommand.{MakeCommand}
 use Rattle.host_top.specs.declared.command.RunCommand.{RunCommand}
 use Rattle.host_top.specs.declared.disturb_command.DisturbCommand.{DisturbCommand}
 use Rattle.host_top.specs.declared.ending.Ending.TheVariants.{Done, Refused}
 use Rattle.host_top.specs.declared.ending.Finish.{Finish}
+use Rattle.host_top.specs.declared.explain_command.ExplainCommand.{ExplainCommand}
+use Rattle.host_top.specs.Explain.{ExplainsAs}
+use Rattle.capture_explain.specs.declared.explanation.ExplainRow.{ExplainRow}
+use Rattle.capture_explain.specs.ExplainText.{explanation_bytes}
 use Rattle.host_top.specs.Disturb.{DisturbedTo}
 use Rattle.host_top.specs.Ending.{last_line}
 use Rattle.host_top.specs.HostMain.{Finishes}
@@ -72,10 +76,28 @@ finishes_help {O} sink before report finish old new empty done took = record {
 }
 
 pub finishes_refused : {O : Type 0} (sink : byte_sink.Ghosts O) (before : Outside) (report : List Row) (finish : Finish) (old new : O)
-    → finish.ending ≡ Refused → Took sink.bytes sink.faults sink.grows finish.answer (last_line Refused) old new
+    → report ≡ [] → finish.ending ≡ Refused → Took sink.bytes sink.faults sink.grows finish.answer (last_line Refused) old new
     → Finishes sink None before before report finish old new
-finishes_refused {O} sink before report finish old new refused took = record {
+finishes_refused {O} sink before report finish old new empty refused took = record {
   text = last_line Refused;
-  ended = record { refused = refused; says = refl };
+  ended = record { empty = empty; refused = refused; says = refl };
+  took = took;
+}
+
+-- nothing is captured or reported where a capture is explained
+pub finishes_explain : {S C O : Type 0} (source : script_source.Ghosts S) (captures : byte_sink.Ghosts C) (sink : byte_sink.Ghosts O)
+    (explain : ExplainCommand) (first last : S) (capture : C) (report : List Row) (rows : List ExplainRow) (finish : Finish) (old new : O)
+    → report ≡ []
+    → ExplainsAs explain.max_frames (source.left first) (source.left last) (source.faults first) (source.faults last) rows finish.ending
+    → Took sink.bytes sink.faults sink.grows finish.answer (explanation_bytes rows ++ last_line finish.ending) old new
+    → Finishes sink (Some (Explain explain)) (outside_of source captures first capture) (outside_of source captures last capture) report finish old new
+finishes_explain {S} {C} {O} source captures sink explain first last capture report rows finish old new empty explains took = record {
+  text = explanation_bytes rows ++ last_line finish.ending;
+  ended = record {
+    rows = rows;
+    explains = explains;
+    uncaptured = record { captured = refl; faults = refl; empty = empty };
+    says = refl;
+  };
   took = took;
 }

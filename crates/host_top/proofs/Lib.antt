@@ -1,7 +1,9 @@
 pub mod CommandLemmas
+pub mod CountLemmas
 pub mod DigitLemmas
 pub mod DisturbLemmas
 pub mod EndingLemmas
+pub mod ExplainLemmas
 pub mod FinishLemmas
 pub mod HexLemmas
 pub mod JoinLemmas

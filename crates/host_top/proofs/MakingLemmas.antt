@@ -8,7 +8,7 @@ use Rattle.net_host.specs.Outside.{Outside}
 use Rattle.net_host.proofs.RefusedLemmas.{nothing_run}
 use Rattle.host_top.specs.declared.command.MakeCommand.{MakeCommand}
 use Rattle.host_top.specs.declared.ending.Ending.{Ending}
-use Rattle.host_top.specs.declared.ending.Ending.TheVariants.{Done, Refused, Script, Limit, Read, Capture, NoMemory}
+use Rattle.host_top.specs.declared.ending.Ending.TheVariants.{Done, Refused, Script, Limit, Entry, FrameLimit, Read, Capture, NoMemory}
 use Rattle.host_top.specs.MakeWords.{run_of_make}
 use Rattle.host_top.specs.Generator.{event_words}
 use Rattle.host_top.specs.Ran.{task_named, RanTo}
@@ -22,6 +22,8 @@ ends make before after report Done bytes rest made ran = tt
 ends make before after report Refused bytes rest made ran = ran
 ends make before after report (Script offset) bytes rest made ran = not_broken make.count bytes offset made.events made.script ran.1.0
 ends make before after report Limit bytes rest made ran = not_over make.count bytes made.events made.script ran.1.0
+ends make before after report (Entry offset) bytes rest made ran = ran
+ends make before after report FrameLimit bytes rest made ran = ran
 ends make before after report Read bytes rest made ran = absurd (omega (arith, ran.1.0))
 ends make before after report Capture bytes rest made ran = tt
 ends make before after report NoMemory bytes rest made ran = tt

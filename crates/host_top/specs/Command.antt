@@ -2,10 +2,11 @@
 use Rattle.std.specs.Prelude.{◌≡◌, ℕ, ◌⊎◌, ⊤, true, false, List, [], ◌∷◌, Option, option_map, codes}
 use Rattle.host_top.specs.declared.command.Asked.{Asked}
 use Rattle.host_top.specs.declared.command.Command.{Command}
-use Rattle.host_top.specs.declared.command.Command.TheVariants.{Run, Make, Help, Disturb}
+use Rattle.host_top.specs.declared.command.Command.TheVariants.{Run, Make, Explain, Help, Disturb}
 use Rattle.host_top.specs.declared.command.Keyword.{Keyword}
 use Rattle.host_top.specs.declared.command.Keyword.TheVariants as keyword
 use Rattle.host_top.specs.Disturb.{NamesDisturb, IsDisturbable}
+use Rattle.host_top.specs.Explain.{NamesExplain, IsExplainable}
 use Rattle.host_top.specs.MakeWords.{NamesMake, run_of_make}
 use Rattle.host_top.specs.RunWords.{NamesRun, IsRunnable}
 
@@ -17,6 +18,7 @@ IsHelpWord word = (word ≡ codes "help") ⊎ ((word ≡ codes "--help") ⊎ (wo
 abbrev pub IsKeyword : List ℕ → Keyword → Type 0
 IsKeyword word keyword.Run = word ≡ codes "run"
 IsKeyword word keyword.Make = word ≡ codes "make"
+IsKeyword word keyword.Explain = word ≡ codes "explain"
 IsKeyword word keyword.Help = IsHelpWord word
 IsKeyword word keyword.Disturb = word ≡ codes "disturb"
 
@@ -30,6 +32,7 @@ pub record NameHelp (words : List (List ℕ)) : Type 0 where
 abbrev pub NameWork : List (List ℕ) → Command → Type 0
 NameWork words (Run run) = NamesRun words run
 NameWork words (Make make) = NamesMake words make
+NameWork words (Explain explain) = NamesExplain words explain
 NameWork words Help = NameHelp words
 NameWork words (Disturb disturb) = NamesDisturb words disturb
 
@@ -37,6 +40,7 @@ NameWork words (Disturb disturb) = NamesDisturb words disturb
 abbrev pub CanBeLive : Command → Type 0
 CanBeLive (Run run) = ⊤
 CanBeLive (Make make) = ⊥
+CanBeLive (Explain explain) = ⊥
 CanBeLive Help = ⊥
 CanBeLive (Disturb disturb) = ⊤
 
@@ -77,5 +81,6 @@ NamesOne = (words : List (List ℕ)) (one other : Command) → Names words one �
 abbrev pub IsCommand : Command → Type 0
 IsCommand (Run run) = IsRunnable run
 IsCommand (Make make) = IsRunnable (run_of_make make)
+IsCommand (Explain explain) = IsExplainable explain
 IsCommand Help = ⊤
 IsCommand (Disturb disturb) = IsDisturbable disturb

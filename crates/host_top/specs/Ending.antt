@@ -5,13 +5,15 @@ use Rattle.phy_layers.specs.declared.byte_sink.SinkError.{SinkError}
 use Rattle.phy_layers.specs.declared.byte_sink.SinkError.TheVariants as sink
 use Rattle.host_top.specs.Usage.{usage_text}
 use Rattle.host_top.specs.declared.ending.Ending.{Ending}
-use Rattle.host_top.specs.declared.ending.Ending.TheVariants.{Done, Refused, Script, Limit, Read, Capture, NoMemory}
+use Rattle.host_top.specs.declared.ending.Ending.TheVariants.{Done, Refused, Script, Limit, Entry, FrameLimit, Read, Capture, NoMemory}
 
 abbrev pub status_of : Ending → ℕ
 status_of Done = 0
 status_of Refused = 1
 status_of (Script offset) = 2
 status_of Limit = 3
+status_of (Entry offset) = 2
+status_of FrameLimit = 3
 status_of Read = 4
 status_of Capture = 5
 status_of NoMemory = 7
@@ -28,6 +30,8 @@ last_line Done = codes "done\n"
 last_line Refused = usage_text
 last_line (Script offset) = codes "script error at " ++ decimal offset ++ codes "\n"
 last_line Limit = codes "event limit reached\n"
+last_line (Entry offset) = codes "capture error at " ++ decimal offset ++ codes "\n"
+last_line FrameLimit = codes "frame limit reached\n"
 last_line Read = codes "read fault\n"
 last_line Capture = codes "capture fault\n"
 last_line NoMemory = codes "no memory\n"

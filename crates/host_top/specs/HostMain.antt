@@ -6,8 +6,13 @@ use Rattle.phy_layers.specs.Sink.{Took}
 use Rattle.net_host.specs.declared.report.Row.{Row}
 use Rattle.net_host.specs.Outside.{Outside}
 use Rattle.net_host.specs.Run.{Finished}
+use Rattle.capture_explain.specs.declared.explanation.ExplainRow.{ExplainRow}
+use Rattle.capture_explain.specs.Capture.{IsCaptureFile, CaptureEntry, HasNoHeader}
+use Rattle.capture_explain.specs.Capture.{IsBrokenAt as IsBrokenCapture, IsOverLimit as IsLongCapture}
+use Rattle.capture_explain.specs.Explained.{Explained}
+use Rattle.capture_explain.specs.ExplainText.{explanation_bytes}
 use Rattle.host_top.specs.declared.command.Command.{Command}
-use Rattle.host_top.specs.declared.command.Command.TheVariants.{Run, Make, Help, Disturb}
+use Rattle.host_top.specs.declared.command.Command.TheVariants.{Run, Make, Explain, Help, Disturb}
 use Rattle.host_top.specs.declared.command.MakeCommand.{MakeCommand}
 use Rattle.host_top.specs.declared.command.RunCommand.{RunCommand}
 use Rattle.host_top.specs.declared.ending.Ending.{Ending}
@@ -16,8 +21,10 @@ use Rattle.host_top.specs.declared.ending.Finish.{Finish}
 use Rattle.host_top.specs.Command.{Names, NameHelp, IsTaken}
 use Rattle.host_top.specs.MakeWords.{NamesMake, run_of_make}
 use Rattle.host_top.specs.declared.disturb_command.DisturbCommand.{DisturbCommand}
+use Rattle.host_top.specs.declared.explain_command.ExplainCommand.{ExplainCommand}
 use Rattle.host_top.specs.Disturb.{DisturbedTo, task_disturbed}
 use Rattle.host_top.specs.Ending.{last_line}
+use Rattle.host_top.specs.Explain.{NamesExplain, ExplainsAs}
 use Rattle.host_top.specs.Making.{IsLeftByMade, IsEndingOfMade}
 use Rattle.host_top.specs.Printing.{summed_up}
 use Rattle.host_top.specs.Ran.{task_named, RanTo}
@@ -48,6 +55,20 @@ pub record EndedDisturb (disturb : DisturbCommand) (before after : Outside) (rep
   pub ran : DisturbedTo disturb before after report ending
   pub says : text ≡ report_bytes report ++ last_line ending
 
+-- nothing was captured or reported
+pub record IsUncaptured (before after : Outside) (report : List Row) : Type 0 where
+  pub captured : after.captured ≡ before.captured
+  pub faults : after.capture_faults ≡ before.capture_faults
+  pub empty : report ≡ []
+
+-- An explanation of a capture ended so, and what is printed of it: the rows and the last line.
+pub record EndedExplain (explain : ExplainCommand) (before after : Outside) (report : List Row) (ending : Ending)
+    (text : List ℕ) : Type 0 where
+  pub rows : List ExplainRow
+  pub explains : ExplainsAs explain.max_frames before.left after.left before.read_faults after.read_faults rows ending
+  pub uncaptured : IsUncaptured before after report
+  pub says : text ≡ explanation_bytes rows ++ last_line ending
+
 -- how the program is used was printed, and nothing else was done
 pub record EndedHelp (before after : Outside) (report : List Row) (ending : Ending) (text : List ℕ) : Type 0 where
   pub done : ending ≡ Done
@@ -59,17 +80,19 @@ pub record EndedHelp (before after : Outside) (report : List Row) (ending : Endi
 abbrev pub EndedAs : Command → Outside → Outside → List Row → Ending → List ℕ → Type 0
 EndedAs (Run run) before after report ending text = EndedRun run before after report ending text
 EndedAs (Make make) before after report ending text = EndedMake make before after report ending text
+EndedAs (Explain explain) before after report ending text = EndedExplain explain before after report ending text
 EndedAs Help before after report ending text = EndedHelp before after report ending text
 EndedAs (Disturb disturb) before after report ending text = EndedDisturb disturb before after report ending text
 
--- words that name no command: the last line says how the program is used
-pub record EndedRefused (ending : Ending) (text : List ℕ) : Type 0 where
+-- words that name no command: the last line says how the program is used, and nothing is reported
+pub record EndedRefused (report : List Row) (ending : Ending) (text : List ℕ) : Type 0 where
+  pub empty : report ≡ []
   pub refused : ending ≡ Refused
   pub says : text ≡ last_line Refused
 
 -- how it ended, and its text
 abbrev pub HasEnded : Option Command → Outside → Outside → List Row → Ending → List ℕ → Type 0
-HasEnded None before after report ending text = EndedRefused ending text
+HasEnded None before after report ending text = EndedRefused report ending text
 HasEnded (Some command) before after report ending text = EndedAs command before after report ending text
 
 -- and that was handed to the output
@@ -84,6 +107,8 @@ abbrev pub IsDone : Command → Outside → Outside → List Row → Type 0
 IsDone (Run run) before after report = Finished (task_named run) before after report
 IsDone (Make make) before after report =
     IsLeftByMade make (λ before after. Finished (task_named (run_of_make make)) before after report) before after
+IsDone (Explain explain) before after report =
+    (report ≡ []) × (rows : List ExplainRow) × Explained explain.max_frames before.left after.left rows
 IsDone Help before after report = report ≡ []
 IsDone (Disturb disturb) before after report = Finished (task_disturbed disturb) before after report
 
@@ -92,6 +117,8 @@ abbrev pub HasBrokenScript : Command → Outside → Type 0
 HasBrokenScript (Run run) before =
     IfSome before.left (λ bytes. (offset : ℕ) × IsBrokenAt run.max_events bytes offset)
 HasBrokenScript (Make make) before = ⊥
+HasBrokenScript (Explain explain) before =
+    IfSome before.left (λ bytes. HasNoHeader bytes ⊎ ((offset : ℕ) × IsBrokenCapture explain.max_frames bytes offset))
 HasBrokenScript Help before = ⊥
 HasBrokenScript (Disturb disturb) before =
     IfSome before.left (λ bytes. (offset : ℕ) × IsBrokenAt disturb.run.max_events bytes offset)
@@ -100,6 +127,7 @@ HasBrokenScript (Disturb disturb) before =
 abbrev pub HasLongScript : Command → Outside → Type 0
 HasLongScript (Run run) before = IfSome before.left (IsOverLimit run.max_events)
 HasLongScript (Make make) before = ⊥
+HasLongScript (Explain explain) before = IfSome before.left (IsLongCapture explain.max_frames)
 HasLongScript Help before = ⊥
 HasLongScript (Disturb disturb) before = IfSome before.left (IsOverLimit disturb.run.max_events)
 
@@ -107,6 +135,8 @@ HasLongScript (Disturb disturb) before = IfSome before.left (IsOverLimit disturb
 abbrev pub IsComplete : Command → Outside → ℕ → Type 0
 IsComplete (Run run) before result = IfSome before.left (IsStatusOf run.max_events result)
 IsComplete (Make make) before result = IsUnlessNoMemory 0 result
+IsComplete (Explain explain) before result =
+    IfSome before.left (λ bytes. (entries : List CaptureEntry) → IsCaptureFile explain.max_frames bytes entries → IsUnlessNoMemory 0 result)
 IsComplete Help before result = IsUnlessNoMemory 0 result
 IsComplete (Disturb disturb) before result = IfSome before.left (IsStatusOf disturb.run.max_events result)
 
@@ -118,6 +148,10 @@ Ask words (Some command) = Names words command
 -- the words ask for a script that is made
 abbrev pub AskToMake : List (List ℕ) → Type 0
 AskToMake words = (make : MakeCommand) × NamesMake words make
+
+-- the words ask for an explanation of a capture
+abbrev pub AskToExplain : List (List ℕ) → Type 0
+AskToExplain words = (explain : ExplainCommand) × NamesExplain words explain
 
 -- the words name no command, or ask how the program is used
 abbrev pub AskForNoWork : List (List ℕ) → Type 0

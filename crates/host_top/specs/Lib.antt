@@ -2,6 +2,7 @@ pub mod AddressText
 pub mod Command
 pub mod Disturb
 pub mod Ending
+pub mod Explain
 pub mod Generator
 pub mod HostMain
 pub mod MakeWords

@@ -7,7 +7,7 @@ use Rattle.net_host.specs.Outside.{Outside, IsQuiet}
 use Rattle.net_host.specs.Run.{Task, task_of, Finished, Leaves, HasCause}
 use Rattle.host_top.specs.declared.command.RunCommand.{RunCommand}
 use Rattle.host_top.specs.declared.ending.Ending.{Ending}
-use Rattle.host_top.specs.declared.ending.Ending.TheVariants.{Done, Refused, Script, Limit, Read, Capture, NoMemory}
+use Rattle.host_top.specs.declared.ending.Ending.TheVariants.{Done, Refused, Script, Limit, Entry, FrameLimit, Read, Capture, NoMemory}
 use Rattle.host_top.specs.RunWords.{settings_named}
 use Rattle.host_top.specs.Generator.{event_words}
 
@@ -25,6 +25,8 @@ RanAs task before after report Done = Finished task before after report × IsQui
 RanAs task before after report Refused = ⊥
 RanAs task before after report (Script offset) = Ran task before after report (run_error.Script offset)
 RanAs task before after report Limit = Ran task before after report run_error.Limit
+RanAs task before after report (Entry offset) = ⊥
+RanAs task before after report FrameLimit = ⊥
 RanAs task before after report Read = Ran task before after report run_error.Read
 RanAs task before after report Capture = Ran task before after report run_error.Sink
 RanAs task before after report NoMemory = Ran task before after report run_error.NoMemory

@@ -6,6 +6,7 @@ abbrev pub usage_text : List ℕ
 usage_text =
     codes "usage: run HW SEED MAX [mtu=N] [lease=N] [naks=ignore|obey]\n"
     ++ codes "       make SEED COUNT\n"
+    ++ codes "       explain MAX\n"
     ++ codes "       disturb HW SEED MAX FSEED DROP CORRUPT\n"
     ++ codes "       live COMMAND ...\n"
     ++ codes "       help\n"
@@ -15,7 +16,7 @@ abbrev pub words_text : List ℕ
 words_text =
     codes "HW       the hardware address of the host: twelve hexadecimal digits\n"
     ++ codes "SEED     where the ids and ports of its messages come from: 0 to 4294967295\n"
-    ++ codes "MAX      the most events that the script may have: 1 to 10000\n"
+    ++ codes "MAX      the most events that the script may have: 1 to 10000; of explain the most frames: 1 to 100000\n"
     ++ codes "COUNT    how many events the made script has: 1 to 10000\n"
     ++ codes "FSEED    where the faults of a bad link come from: 0 to 4294967295\n"
     ++ codes "DROP     how often a frame is dropped, in percent: 0 to 100\n"
@@ -24,8 +25,8 @@ words_text =
 -- what is read, and what is written
 abbrev pub files_text : List ℕ
 files_text =
-    codes "input    standard input: the script of frames, ticks, queries and resets\n"
-    ++ codes "output   standard output: the report, a row an event\n"
+    codes "input    standard input: the script of frames, ticks, queries and resets; of explain a capture\n"
+    ++ codes "output   standard output: the report, a row an event; of explain a row a frame\n"
     ++ codes "capture  capture.pcap: all frames, those that arrived and those that the host sent\n"
 
 abbrev pub help_text : List ℕ

@@ -5,6 +5,7 @@ ghost use Rattle.host_top.specs.RunWords.{WritesRun, IsCountWord};
 ghost use Rattle.host_top.specs.MakeWords.{WritesMake};
 
 use crate::disturb_command::{DisturbCommand, disturb_of};
+use crate::explain_command::{ExplainCommand, explain_of};
 use crate::setting::{RunSettings, settings_of};
 use crate::word::{address_of, number_of, u32_of};
 use net_wire::EthernetAddress;
@@ -14,6 +15,7 @@ use net_wire::EthernetAddress;
 pub enum Command {
     Run(RunCommand),
     Make(MakeCommand),
+    Explain(ExplainCommand),
     /// Say how the program is used.
     Help,
     Disturb(DisturbCommand),
@@ -47,7 +49,7 @@ impl Command {
     {
         match self {
             Command::Run(_) | Command::Disturb(_) => true,
-            Command::Make(_) | Command::Help => false,
+            Command::Make(_) | Command::Explain(_) | Command::Help => false,
         }
     }
 }
@@ -113,6 +115,7 @@ fn command_of(words: &[String]) -> Option<Command>
     match keyword {
         Keyword::Run => Some(Command::Run(run_of(behind)?)),
         Keyword::Make => Some(Command::Make(make_of(behind)?)),
+        Keyword::Explain => Some(Command::Explain(explain_of(behind)?)),
         Keyword::Help => {
             if behind.is_empty() {
                 Some(Command::Help)
@@ -129,6 +132,7 @@ fn command_of(words: &[String]) -> Option<Command>
 enum Keyword {
     Run,
     Make,
+    Explain,
     Help,
     Disturb,
 }
@@ -142,6 +146,8 @@ fn keyword_of(word: &[u8]) -> Option<Keyword>
         Some(Keyword::Run)
     } else if word == b"make".as_slice() {
         Some(Keyword::Make)
+    } else if word == b"explain".as_slice() {
+        Some(Keyword::Explain)
     } else if is_help_word(word) {
         Some(Keyword::Help)
     } else if word == b"disturb".as_slice() {

@@ -18,6 +18,10 @@ pub enum Ending {
     Script(u64),
     /// The script goes on after the most events.
     Limit,
+    /// At this place of the capture something begins that is no header or entry.
+    Entry(u64),
+    /// The capture goes on after the most frames.
+    FrameLimit,
     /// The script could not be read.
     Read,
     /// The capture could not be written.
@@ -34,8 +38,8 @@ impl Ending {
         match self {
             Ending::Done => 0,
             Ending::Refused => 1,
-            Ending::Script(_) => 2,
-            Ending::Limit => 3,
+            Ending::Script(_) | Ending::Entry(_) => 2,
+            Ending::Limit | Ending::FrameLimit => 3,
             Ending::Read => 4,
             Ending::Capture => 5,
             Ending::NoMemory => 7,
@@ -74,6 +78,12 @@ pub fn put_last_line<O: ByteSink>(out: &mut O, answer: &mut Result<(), SinkError
             put(out, answer, b"\n");
         }
         Ending::Limit => put(out, answer, b"event limit reached\n"),
+        Ending::Entry(offset) => {
+            put(out, answer, b"capture error at ");
+            put_number(out, answer, offset);
+            put(out, answer, b"\n");
+        }
+        Ending::FrameLimit => put(out, answer, b"frame limit reached\n"),
         Ending::Read => put(out, answer, b"read fault\n"),
         Ending::Capture => put(out, answer, b"capture fault\n"),
         Ending::NoMemory => put(out, answer, b"no memory\n"),

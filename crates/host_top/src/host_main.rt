@@ -7,9 +7,13 @@ ghost use Rattle.host_top.specs.Command.{IsTaken, IsCommand, command_asked};
 ghost use Rattle.host_top.specs.RunWords.{IsRunnable};
 ghost use Rattle.host_top.specs.MakeWords.{run_of_make};
 ghost use Rattle.host_top.specs.Disturb.{IsDisturbable, DisturbedTo};
+ghost use Rattle.capture_explain.specs.declared.explanation.ExplainRow.{ExplainRow};
+ghost use Rattle.capture_explain.specs.ExplainText.{explanation_bytes};
+ghost use Rattle.net_host.specs.QueryRows.{CountsQueries};
+ghost use Rattle.host_top.specs.Explain.{IsExplainable, ExplainsAs};
 ghost use Rattle.host_top.specs.Ending.{last_line};
 ghost use Rattle.host_top.specs.HostMain.{ForNamed, IsDone, HasBrokenScript, HasLongScript, IsComplete};
-ghost use Rattle.host_top.specs.HostMain.{Ask, AskToMake, AskForNoWork, HasEnded, Finishes};
+ghost use Rattle.host_top.specs.HostMain.{Ask, AskToMake, AskToExplain, AskForNoWork, HasEnded, Finishes};
 ghost use Rattle.host_top.specs.Making.{sink_alone, MadeTo};
 ghost use Rattle.host_top.specs.Printing.{summed_up, Prints};
 ghost use Rattle.host_top.specs.Ran.{RanTo};
@@ -22,12 +26,14 @@ ghost use Rattle.host_top.specs.Usage.{help_text};
 use crate::command::{Asked, Command, MakeCommand, RunCommand, parse};
 use crate::disturb_command::{DisturbCommand, run_over_bad_link};
 use crate::ending::{Ending, Finish, put_last_line};
+use crate::explain_command::{ExplainCommand, explain_named};
 use crate::printer::RowPrinter;
 use crate::report_text::report_text;
 use crate::running::{run_made, run_named};
 use crate::summary::put_summary;
 use crate::text::flush;
 use crate::usage::put_help;
+use capture_explain::{Explanation, explain_text};
 use net_host::{Report, ScriptSource, Silent};
 use phy_layers::{ByteSink, PcapSink, SinkError};
 use std::alloc::Global;
@@ -76,6 +82,13 @@ pub fn host_main<S: ScriptSource, C: PcapSink, O: ByteSink>(
     // A script that is made stands in the place of the source, of which nothing is read.
     ensures unread { AskToMake (map string_bytes args.now) → script.new ≡ script.old }
 
+    // Where a capture is explained nothing is captured or reported.
+    ensures uncaptured { AskToExplain (map string_bytes args.now) → (capture.new ≡ capture.old) × (report.new ≡ []) }
+
+    // Whatever the status: at most four frames of one query to one place of the list of name servers, and no query
+    // with two lines.
+    ensures queries { CountsQueries report.new }
+
     // Whatever the status: what the words ask for, how it ended, with what it left, and the text of that.
     ensures ended { (asked : Option Command) × (ending : Ending) × (text : List ℕ)
         × Ask (map string_bytes args.now) asked
@@ -104,6 +117,8 @@ fn obey<S: ScriptSource, C: PcapSink, O: ByteSink>(
     ensures untouched { (command_asked asked ≡ None) ⊎ (command_asked asked ≡ Some Command.Help)
         → (script.new ≡ script.old) × (capture.new ≡ capture.old) × (report.new ≡ []) }
     ensures unread { (make : MakeCommand) → command_asked asked ≡ Some (Command.Make make) → script.new ≡ script.old }
+    ensures uncaptured { (explain : ExplainCommand) → command_asked asked ≡ Some (Command.Explain explain)
+        → (capture.new ≡ capture.old) × (report.new ≡ []) }
 {
     match asked {
         Some(Asked { command, is_live }) => {
@@ -130,10 +145,13 @@ fn obey_command<S: ScriptSource, C: PcapSink, O: ByteSink>(
     ensures untouched { command ≡ Command.Help
         → (script.new ≡ script.old) × (capture.new ≡ capture.old) × (report.new ≡ []) }
     ensures unread { (make : MakeCommand) → command ≡ Command.Make make → script.new ≡ script.old }
+    ensures uncaptured { (explain : ExplainCommand) → command ≡ Command.Explain explain
+        → (capture.new ≡ capture.old) × (report.new ≡ []) }
 {
     match command {
         Command::Run(run) => obey_run(alloc, &run, is_live, script, capture, out, report),
         Command::Make(make) => obey_make(alloc, &make, capture, out, report),
+        Command::Explain(explain) => obey_explain(alloc, &explain, script, out),
         Command::Help => obey_help(out),
         Command::Disturb(disturb) => {
             obey_disturb(alloc, &disturb, is_live, script, capture, out, report)
@@ -218,6 +236,25 @@ fn obey_disturb<S: ScriptSource, C: PcapSink, O: ByteSink>(
     }
 }
 
+/// Explains a capture, and prints the rows.
+fn obey_explain<S: ScriptSource, O: ByteSink>(
+    alloc: Global,
+    command: &ExplainCommand,
+    script: &mut S,
+    out: &mut O,
+) -> Finish
+    requires explainable { IsExplainable command.now }
+    ensures explained { (rows : List ExplainRow)
+        × ExplainsAs command.now.max_frames (S.left script.old) (S.left script.new) (S.faults script.old)
+        (S.faults script.new) rows result.ending
+        × Took O.bytes O.faults O.grows result.answer (explanation_bytes rows ++ last_line result.ending) out.old out.new }
+{
+    let mut explanation = Explanation::new(alloc);
+    let ending = explain_named(alloc, command, script, &mut explanation);
+    let answer = print_explanation(&explanation, ending, out);
+    Finish { ending, answer }
+}
+
 /// Prints how the program is used.
 fn obey_help<O: ByteSink>(out: &mut O) -> Finish
     ensures ending { result.ending ≡ Ending.Done }
@@ -262,6 +299,19 @@ fn print_run<O: ByteSink>(report: &Report, ending: Ending, out: &mut O) -> Resul
     ensures { Took O.bytes O.faults O.grows result (report_bytes report.now ++ last_line ending) out.old out.new }
 {
     let mut answer = report_text(report, out);
+    put_last_line(out, &mut answer, ending);
+    flush(out, &mut answer);
+    answer
+}
+
+fn print_explanation<O: ByteSink>(
+    explanation: &Explanation,
+    ending: Ending,
+    out: &mut O,
+) -> Result<(), SinkError>
+    ensures { Took O.bytes O.faults O.grows result (explanation_bytes explanation.now ++ last_line ending) out.old out.new }
+{
+    let mut answer = explain_text(explanation, out);
     put_last_line(out, &mut answer, ending);
     flush(out, &mut answer);
     answer

@@ -8,6 +8,7 @@ pub mod capture_file;
 pub mod command;
 pub mod disturb_command;
 pub mod ending;
+pub mod explain_command;
 pub mod generator;
 pub mod host_main;
 pub mod lazy_file;

@@ -1,5 +1,5 @@
 use Rattle.std.specs.String.{string_bytes}
-use Rattle.host_top.proofs.CommandLemmas.{is_first, opened, opened_as, undisturbed, unmade, unworded, unwritten}
+use Rattle.host_top.proofs.CommandLemmas.{is_first, opened, opened_as, undisturbed, unexplained, unmade, unworded, unwritten}
 use Rattle.host_top.proofs.command.command_of.Goals as goal
 
 pub returns-in_err-keyword-clause-refuses : goal.returns-in_err-keyword-clause-refuses
@@ -28,3 +28,10 @@ returns-in_err-disturb_of-in-Disturb-clause-refuses c =
     c.as_bytes.ensures.value (rw c.in-Disturb.is at c.in_ok-keyword.ensures.found) in
     rw c.from_residual-in_err-disturb_of-in-Disturb.ensures
     (undisturbed string_bytes c.args.words.now c.in_err-disturb_of-in-Disturb.ensures.refuses (is_first string_bytes c.args.words.now _ _ are))
+
+pub returns-in_err-explain_of-in-Explain-clause-refuses : goal.returns-in_err-explain_of-in-Explain-clause-refuses
+returns-in_err-explain_of-in-Explain-clause-refuses c =
+    let are = opened_as string_bytes c.args.words.now c.name-item.result c.as_bytes.result.now _ c.in-len1-up.len_at_least c.name-item.is
+    c.as_bytes.ensures.value (rw c.in-Explain.is at c.in_ok-keyword.ensures.found) in
+    rw c.from_residual-in_err-explain_of-in-Explain.ensures
+    (unexplained string_bytes c.args.words.now c.in_err-explain_of-in-Explain.ensures.refuses (is_first string_bytes c.args.words.now _ _ are))

@@ -1,4 +1,5 @@
-use Rattle.host_top.proofs.CommandLemmas.{asked_by, asked_command, no_work}
+use Rattle.host_top.proofs.CommandLemmas.{asked_by, asked_command, explain_asked, no_work}
+use Rattle.host_top.proofs.CountLemmas.{ended_counts}
 use Rattle.host_top.proofs.EndingLemmas.{refused_exactly, complete_named}
 use Rattle.host_top.proofs.StatusLemmas.{says}
 use Rattle.host_top.proofs.host_main.host_main.Goals as goal
@@ -33,3 +34,11 @@ pub returns-clause-untouched : goal.returns-clause-untouched
 returns-clause-untouched g c = λ asks.
     c.obey-finish.ensures.untouched
     (no_work _ _ (asked_by _ _ c.parse-asked.ensures.found c.parse-asked.ensures.refuses) asks)
+
+pub returns-clause-queries : goal.returns-clause-queries
+returns-clause-queries g c = ended_counts c.obey-finish.ensures.ended.ended
+
+pub returns-clause-uncaptured : goal.returns-clause-uncaptured
+returns-clause-uncaptured g c = λ asks.
+    c.obey-finish.ensures.uncaptured asks.0
+    (explain_asked _ _ asks (asked_by _ _ c.parse-asked.ensures.found c.parse-asked.ensures.refuses))
