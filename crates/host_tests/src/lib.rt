@@ -13,6 +13,8 @@ mod calls;
 #[cfg(test)]
 mod disturbed;
 #[cfg(test)]
+mod explained;
+#[cfg(test)]
 mod faults;
 #[cfg(test)]
 mod files;

@@ -5,7 +5,7 @@ use std::alloc::{AllocError, Global};
 use std::test::Fail;
 
 /// Words that name no command.
-const COMMANDS: [&[&str]; 30] = [
+const COMMANDS: [&[&str]; 36] = [
     &[],
     &["run"],
     &["run", "020202020202", "1"],
@@ -40,6 +40,12 @@ const COMMANDS: [&[&str]; 30] = [
     ],
     &["disturb", "020202020202", "1", "10", "7", "101", "0"],
     &["disturb", "020202020202", "1", "10", "7", "0", "0000"],
+    &["explain"],
+    &["explain", "0"],
+    &["explain", "100001"],
+    &["explain", "0000001"],
+    &["explain", "1", "1"],
+    &["live", "explain", "1"],
     &["live"],
     &["live", "make", "1", "1"],
     &["live", "help"],
@@ -75,6 +81,7 @@ const SETTINGS: [&[&str]; 19] = [
 
 const USAGE: &[u8] = b"usage: run HW SEED MAX [mtu=N] [lease=N] [naks=ignore|obey]
        make SEED COUNT
+       explain MAX
        disturb HW SEED MAX FSEED DROP CORRUPT
        live COMMAND ...
        help

@@ -18,7 +18,7 @@ use Rattle.host_top.specs.declared.setting.RunSettings.{RunSettings}
 use Rattle.host_top.specs.declared.disturb_command.DisturbCommand.{DisturbCommand}
 use Rattle.host_top.specs.Disturb.{WritesDisturb}
 use Rattle.host_top.specs.declared.explain_command.ExplainCommand.{ExplainCommand}
-use Rattle.host_top.specs.Explain.{WritesExplain, IsFrameCountWord}
+use Rattle.host_top.specs.Explain.{WritesExplain}
 use Rattle.host_top.specs.RunWords.{WritesRun, NamesRun, IsRunnable, settings_named}
 use Rattle.host_top.specs.MakeWords.{WritesMake, NamesMake, run_of_make}
 use Rattle.host_top.specs.Command.{NameHelp, IsHelpWord, IsKeyword, NameWork, NameLiveWork, CanBeLive, Names, AreNamed, command_asked, IsTaken, NamesOne, IsCommand}

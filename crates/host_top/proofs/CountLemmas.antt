@@ -45,7 +45,7 @@ command_counts Help before after report ending text ended = none_counted report 
 command_counts (Disturb disturb) before after report ending text ended =
     ran_counts (task_disturbed disturb) before after report ending (keeps_order (faults_named disturb)) ended.ran
 
-pub ended_counts : {asked : Option Command} {before after : Outside} {report : List Row} {ending : Ending} {text : List ℕ}
+pub counts_of : (asked : Option Command) (before after : Outside) (report : List Row) (ending : Ending) (text : List ℕ)
     → HasEnded asked before after report ending text → CountsQueries report
-ended_counts {None} {before} {after} {report} {ending} {text} ended = none_counted report ended.empty
-ended_counts {Some command} {before} {after} {report} {ending} {text} ended = command_counts command before after report ending text ended
+counts_of None before after report ending text ended = none_counted report ended.empty
+counts_of (Some command) before after report ending text ended = command_counts command before after report ending text ended

@@ -1,5 +1,5 @@
 -- What each ending says of an explanation.
-use Rattle.std.proofs.Common.{◌≡◌, ℕ, ◌⊎◌, ⊎_elim, inl, inr, List, Option, Some, None, IfSome, OnOk, IfErr, Result, Ok, Err, ap, sym, ◌∙◌, refl, arith}
+use Rattle.std.proofs.Common.{◌≡◌, ℕ, ◌⊎◌, ⊎_elim, inl, inr, List, Option, Some, None, IfSome, OnOk, IfErr, Result, Ok, Err, ap, sym, ◌∙◌, arith}
 use Rattle.std.specs.Prelude.{IsOk}
 use Rattle.std.specs.Result.{IsErrOf}
 use Rattle.wire_base.specs.Causes.{IsRisen}
@@ -111,8 +111,13 @@ pub explain_uncaptured : (max : ℕ) (left_old left_new : Option (List ℕ)) (fa
     → ExplainsAs max left_old left_new faults_old faults_new rows ending → status_of ending ≡ 5 → ⊥
 explain_uncaptured max left_old left_new faults_old faults_new rows ending explains same = uncaptured_by explains.answer (sym (ap status_of explains.ends) ∙ same)
 
-not_failed : (one : ExplainError) → IsOk (Err one) ⊎ IsErrOf (Err one) error.NoMemory → (Err one ≡ Err error.NoMemory → ⊥) → ⊥
-not_failed one is other = ⊎_elim (λ (ok : IsOk (Err one)). absurd (cc (ok))) (λ (same : IsErrOf (Err one) error.NoMemory). other same) is
+-- an answer that is not Ok and not out of memory
+abbrev refused_by : ExplainError → Result (Unit {0}) ExplainError
+refused_by one = Err one
+
+not_failed : (one : ExplainError) → IsOk (refused_by one) ⊎ IsErrOf (refused_by one) error.NoMemory
+    → (refused_by one ≡ refused_by error.NoMemory → ⊥) → ⊥
+not_failed one is other = ⊎_elim (λ (ok : IsOk (refused_by one)). absurd (cc (ok))) (λ (same : IsErrOf (refused_by one) error.NoMemory). other same) is
 
 complete_by : (max : ℕ) (bytes : List ℕ) (faults_old faults_new result : ℕ) (answer : Result (Unit {0}) ExplainError) (entries : List CaptureEntry)
     → Completes max (Some bytes) faults_old faults_new answer → IfErr answer (HasCause max (Some bytes) faults_old faults_new)

@@ -26,7 +26,7 @@ done_of (Make make) before after report text ended =
     )
 done_of (Disturb disturb) before after report text ended = ended.ran
 done_of (Explain explain) before after report text ended =
-    let done = explain_done explain.max_frames before.left after.left before.read_faults after.read_faults ended.rows Done ended.explains refl in
+    let done = explain_done explain.max_frames before.left after.left before.read_faults after.read_faults ended.rows Done ended.explains (λ i. 0) in
     ((ended.uncaptured.empty, ended.rows, done.0), record { source = done.1; capture = ended.uncaptured.faults })
 done_of Help before after report text ended =
     (ended.empty, record { source = ap (λ o. o.read_faults) ended.same; capture = ap (λ o. o.capture_faults) ended.same })
@@ -47,7 +47,7 @@ broken_of (Run run) before after report offset text ended = at_some_place run.ma
 broken_of (Make make) before after report offset text ended = absurd ended.may
 broken_of (Disturb disturb) before after report offset text ended = at_some_place disturb.run.max_events offset before.left ended.ran.1.0
 broken_of (Explain explain) before after report offset text ended =
-    explain_broken explain.max_frames before.left after.left before.read_faults after.read_faults ended.rows (Script offset) ended.explains refl
+    explain_broken explain.max_frames before.left after.left before.read_faults after.read_faults ended.rows (Script offset) ended.explains (λ i. 2)
 broken_of Help before after report offset text ended = omega (arith, ap status_of ended.done)
 
 broken_at : (command : Command) (before after : Outside) (report : List Row) (ending : Ending) (text : List ℕ)
@@ -67,7 +67,7 @@ long_of (Run run) before after report text ended = ended.ran.1.0
 long_of (Make make) before after report text ended = absurd ended.may
 long_of (Disturb disturb) before after report text ended = ended.ran.1.0
 long_of (Explain explain) before after report text ended =
-    explain_long explain.max_frames before.left after.left before.read_faults after.read_faults ended.rows Limit ended.explains refl
+    explain_long explain.max_frames before.left after.left before.read_faults after.read_faults ended.rows Limit ended.explains (λ i. 3)
 long_of Help before after report text ended = omega (arith, ap status_of ended.done)
 
 long_at : (command : Command) (before after : Outside) (report : List Row) (ending : Ending) (text : List ℕ)
@@ -87,7 +87,7 @@ read_of (Run run) before after report text ended = ended.ran.1.0
 read_of (Make make) before after report text ended = absurd ended.may
 read_of (Disturb disturb) before after report text ended = ended.ran.1.0
 read_of (Explain explain) before after report text ended =
-    explain_read explain.max_frames before.left after.left before.read_faults after.read_faults ended.rows Read ended.explains refl
+    explain_read explain.max_frames before.left after.left before.read_faults after.read_faults ended.rows Read ended.explains (λ i. 4)
 read_of Help before after report text ended = absurd (omega (arith, ap status_of ended.done))
 
 read_at : (command : Command) (before after : Outside) (report : List Row) (ending : Ending) (text : List ℕ)
@@ -101,7 +101,7 @@ capture_of (Run run) before after report text ended = ended.ran.1.0
 capture_of (Make make) before after report text ended = ended.left.left.1.0
 capture_of (Disturb disturb) before after report text ended = ended.ran.1.0
 capture_of (Explain explain) before after report text ended =
-    absurd (explain_uncaptured explain.max_frames before.left after.left before.read_faults after.read_faults ended.rows Capture ended.explains refl)
+    absurd (explain_uncaptured explain.max_frames before.left after.left before.read_faults after.read_faults ended.rows Capture ended.explains (λ i. 5))
 capture_of Help before after report text ended = absurd (omega (arith, ap status_of ended.done))
 
 capture_at : (command : Command) (before after : Outside) (report : List Row) (ending : Ending) (text : List ℕ)

@@ -1,5 +1,5 @@
 use Rattle.host_top.proofs.CommandLemmas.{asked_by, asked_command, explain_asked, no_work}
-use Rattle.host_top.proofs.CountLemmas.{ended_counts}
+use Rattle.host_top.proofs.CountLemmas.{counts_of}
 use Rattle.host_top.proofs.EndingLemmas.{refused_exactly, complete_named}
 use Rattle.host_top.proofs.StatusLemmas.{says}
 use Rattle.host_top.proofs.host_main.host_main.Goals as goal
@@ -36,7 +36,7 @@ returns-clause-untouched g c = λ asks.
     (no_work _ _ (asked_by _ _ c.parse-asked.ensures.found c.parse-asked.ensures.refuses) asks)
 
 pub returns-clause-queries : goal.returns-clause-queries
-returns-clause-queries g c = ended_counts c.obey-finish.ensures.ended.ended
+returns-clause-queries g c = counts_of _ _ _ _ _ _ c.obey-finish.ensures.ended.ended
 
 pub returns-clause-uncaptured : goal.returns-clause-uncaptured
 returns-clause-uncaptured g c = λ asks.
