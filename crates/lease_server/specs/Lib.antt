@@ -1,0 +1,4 @@
+pub mod Values
+pub mod Holdings
+pub mod Replies
+pub mod State
