@@ -1,1 +1,7 @@
 pub mod RangeLemmas
+pub mod TestLemmas
+pub mod HolderLemmas
+pub mod MarkLemmas
+pub mod EvictLemmas
+pub mod PutLemmas
+pub mod GiveLemmas

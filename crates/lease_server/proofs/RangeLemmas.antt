@@ -1,5 +1,5 @@
 -- Walks along the range and along the name servers.
-use Rattle.std.proofs.Common.{◌≡◌, ℕ, zero, suc, ◌+◌, ◌-◌, ◌<◌, ◌&&◌, Bool, true, false, cond, List, [], ◌∷◌, drop, length, get_or, Option, Some, None, refl, sym, ap, ◌∙◌, arith, drop-cons, add-one}
+use Rattle.std.proofs.Common.{◌≡◌, ℕ, zero, suc, ◌+◌, ◌-◌, ◌<◌, ◌≤◌, ◌&&◌, Bool, true, false, cond, List, [], ◌∷◌, drop, length, get_or, Option, Some, None, refl, sym, ap, ◌∙◌, arith, drop-cons, add-one}
 use Rattle.net_wire.specs.declared.address.Ipv4Address.{Ipv4Address}
 use Rattle.net_wire.specs.Unicast.{is_unicast}
 use Rattle.lease_server.specs.Values.{Values, address_of, is_usable, are_usable, are_unicast}
@@ -67,3 +67,12 @@ pub unicast_here : (servers : List Ipv4Address) (i : ℕ) (server : Ipv4Address)
     → are_unicast (drop i servers) ≡ false
 unicast_here servers i server below is =
     ap are_unicast (drop-cons servers i server below) ∙ unicast_not (is_unicast (get_or servers i server)) (drop (suc i) servers) is
+
+pub none_left : (taken : ℕ → Bool) (number place count : ℕ) → count ≤ place → first_free taken number (count - place) ≡ None
+none_left taken number place count past = let none : count - place ≡ 0 = omega arith in ap (first_free taken number) none
+
+pub whole_range : (taken : ℕ → Bool) (first count : ℕ) → first_free taken first count ≡ first_free taken (first + 0) (count - 0)
+whole_range taken first count =
+    let front : first ≡ first + 0 = omega arith in
+    let all : count ≡ count - 0 = omega arith in
+    ap (λ (n : ℕ). first_free taken n count) front ∙ ap (first_free taken (first + 0)) all

@@ -2,3 +2,5 @@ pub mod Values
 pub mod Holdings
 pub mod Replies
 pub mod State
+pub mod Holders
+pub mod Inside

@@ -2,9 +2,13 @@
 #![tactic(auto)]
 
 mod lease;
+mod marks;
+mod replies;
 mod reply;
+mod server;
 mod values;
 
 pub use lease::Lease;
 pub use reply::{Reply, Silence};
+pub use server::Server;
 pub use values::{ServerError, ServerValues};
