@@ -55,3 +55,44 @@ pub owns : (values : Values) (keys : Keys) (leases : List Lease) (table : SlotUs
     → AreHolders values keys leases table → stores (holders_in keys leases) client number ≡ true → IsOwner (holders_in keys leases) number client
 owns values keys leases table number client holders has =
     record { has = has; only = λ other its. only_one values keys leases table holders other client number its has }
+
+-- what is over stays over
+some_none : {X : Type 0} (x : X) → Some x ≡ None → ⊥
+some_none x clash = absurd (cc)
+
+ended_by : (o : Option Held) (now : ℕ) → held_at now o ≡ None → (held : Held) → o ≡ Some held → held.until ≤ now
+ended_by None now ended held is = absurd (none_some held is)
+ended_by (Some it) now ended held is = by_test (nat_lt now it.until)
+    (λ hit. absurd (some_none it.address (sym (ap (λ (b : Bool). cond b (Some it.address) None) hit) ∙ ended)))
+    (λ miss. let same : it ≡ held = cc in let until = ap (λ (h : Held). h.until) same in omega (arith, ltb-false now it.until miss, until))
+
+still_ended : (o : Option Held) (now at : ℕ) → now ≤ at → held_at now o ≡ None → held_at at o ≡ None
+still_ended None now at later ended = refl
+still_ended (Some held) now at later ended = rw (le-ltb at held.until (omega (arith, ended_by (Some held) now ended held refl))) refl
+
+-- ---- after another client that has the address is taken out
+taken_out : (same : Bool) (old : Option Held) (number : ℕ) → has_number (cond same None old) number ≡ true → (same ≡ false) × (has_number old number ≡ true)
+taken_out true old number has = absurd (true_false false has refl)
+taken_out false old number has = (refl, has)
+
+module _ (old new : Holders) (owner : EthernetAddress) (number : ℕ) (owns_it : IsOwner old number owner)
+    (evicted : (other : EthernetAddress) → value_at hardware_cmp new other ≡ cond (same_hardware owner other) None (value_at hardware_cmp old other)) where
+  pub nobody_left : (other : EthernetAddress) → stores new other number ≡ true → ⊥
+  nobody_left other has =
+      let parts = taken_out (same_hardware owner other) (value_at hardware_cmp old other) number
+            (sym (ap (λ (o : Option Held). has_number o number) (evicted other)) ∙ has) in
+      true_false (same_hardware owner other)
+        (ap (λ (o : EthernetAddress). same_hardware owner o) (owns_it.only other parts.1) ∙ itself owner) parts.0
+
+  pub mine_kept : (client : EthernetAddress) → same_hardware owner client ≡ false → value_at hardware_cmp new client ≡ value_at hardware_cmp old client
+  mine_kept client apart = evicted client ∙ rw apart refl
+
+  pub others_kept : (values : Values) (now : ℕ) (client : EthernetAddress) (address : Ipv4Address) → number_of address ≡ number → CanHold values old now client address
+      → same_hardware owner client ≡ false → (other : EthernetAddress) (at : ℕ) → now ≤ at → holding new other at ≡ holding old other at
+  others_kept values now client address is can apart other at later = by_test (same_hardware owner other)
+      (λ hit. ap (held_at at) (evicted other ∙ rw hit refl)
+        ∙ sym (ap (λ (o : EthernetAddress). holding old o at) (sym (same_client owner other hit))
+          ∙ ⊎_elim (can.free owner (ap (stores old owner) is ∙ owns_it.has))
+              (λ same. absurd (true_false (same_hardware owner client) (ap (λ (o : EthernetAddress). same_hardware owner o) (sym same) ∙ itself owner) apart))
+              (λ ended. still_ended (value_at hardware_cmp old owner) now at later ended)))
+      (λ miss. ap (held_at at) (mine_kept other miss))

@@ -4,4 +4,6 @@ pub mod HolderLemmas
 pub mod MarkLemmas
 pub mod EvictLemmas
 pub mod PutLemmas
+pub mod RoomLemmas
 pub mod GiveLemmas
+pub mod ServeLemmas

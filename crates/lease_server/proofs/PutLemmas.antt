@@ -9,14 +9,16 @@ use Rattle.std.specs.Result.{IfErr, OnOk}
 use Rattle.std.specs.declared.result.Result.{Result}
 use Rattle.std.specs.declared.cmp.Ordering.TheVariants.{Less, Equal, Greater}
 use Rattle.std.proofs.lemmas.Bool.{eqb-true, eqb-false, eq-eqb, ne_eqb}
-use Rattle.std.proofs.lemmas.List.{length-map}
 use Rattle.std.proofs.lemmas.Map.Steps.{length-le_from_distinct_below}
 use Rattle.std.proofs.lemmas.Map.Keys.{IsDistinct-cons}
 use Rattle.managed.specs.declared.slot_key.SlotKey.{SlotKey}
 use Rattle.managed.specs.declared.map.ManagedMap.{ManagedMap}
 use Rattle.managed.specs.declared.map.ManagedMap.TheVariants.{Borrowed, Owned}
 use Rattle.managed.specs.SlotTable.{SlotUse, AreFree, IsSoundUse, IsFullTable, generation_at, handed_out, key_handed_out, place_handed_out, taken_generations, still_free}
-use Rattle.managed.specs.SortedMap.{value_at, with_pair, inserted, pairs, capacity}
+use Rattle.managed.specs.SortedMap.{value_at, with_pair, inserted, pairs, capacity, IsRefusal}
+use Rattle.managed.specs.declared.error.InsertError.{InsertError}
+use Rattle.managed.specs.declared.error.InsertError.TheVariants.{Full, NoMemory}
+use Rattle.std.specs.declared.result.Result.TheVariants.{Ok, Err}
 use Rattle.managed.proofs.LawLemmas.{value-with_pair}
 use Rattle.managed.proofs.LiveLemmas.{sound_handed, found_handed, not_handed, kept}
 use Rattle.managed.proofs.OrderLemmas.{by_test, by_ordering}
@@ -155,3 +157,52 @@ prolongs values keys leases table client key lease holders found within whose ra
   range = range;
   alone = alone;
 }
+
+-- ---- with what the calls leave
+module _ (values : Values) (keys new_keys : Keys) (leases : List Lease) (table new_table : SlotUse) (client : EthernetAddress) (key : SlotKey) (lease : Lease)
+    (p : Puts values keys new_keys leases table new_table client key lease)
+    (left_keys : Keys) (left_leases : List Lease) (keys_are : left_keys ≡ new_keys) (leases_are : left_leases ≡ set leases key.place lease) where
+  pub puts_in : (left_table : SlotUse) → left_table ≡ new_table → AreHolders values left_keys left_leases left_table
+  puts_in left_table table_is =
+      let P : Keys → Type 0 = λ k. AreHolders values k left_leases left_table in
+      let Q : List Lease → Type 0 = λ l. AreHolders values new_keys l left_table in
+      let R : SlotUse → Type 0 = λ t. AreHolders values new_keys (set leases key.place lease) t in
+      subst P (sym keys_are) (subst Q (sym leases_are) (subst R (sym table_is)
+        (put_holders values keys new_keys leases table new_table client key lease p)))
+
+  pub put_in : (other : EthernetAddress) → value_at hardware_cmp (holders_in left_keys left_leases) other
+      ≡ cond (same_hardware client other) (Some (held_of lease)) (value_at hardware_cmp (holders_in keys leases) other)
+  put_in other =
+      ap (λ (k : Keys). value_at hardware_cmp (holders_in k left_leases) other) keys_are
+      ∙ ap (λ (l : List Lease). value_at hardware_cmp (holders_in new_keys l) other) leases_are
+      ∙ put_found values keys new_keys leases table new_table client key lease p other
+
+-- ---- a place in use lies among the leases
+used_below : (xs : List (Option ℕ)) (place generation : ℕ) → get_or xs place None ≡ Some generation → place < length xs
+used_below [] place generation is = absurd (none_some generation is)
+used_below (x ∷ xs) zero generation is = omega arith
+used_below (x ∷ xs) (suc place) generation is = omega (arith, used_below xs place generation is)
+
+pub place_below : (values : Values) (keys : Keys) (leases : List Lease) (table : SlotUse) (client : EthernetAddress) (key : SlotKey)
+    → AreHolders values keys leases table → value_at hardware_cmp keys client ≡ Some key → key.place < length leases
+place_below values keys leases table client key holders found =
+    omega (arith, used_below table.generations key.place key.generation (holders.live client key found), holders.begun, holders.room)
+
+-- ---- lent places take a pair where there are fewer than places
+pub takes_pair : (clients : ManagedMap EthernetAddress SlotKey) (count : ℕ) (client : EthernetAddress) (key : SlotKey)
+    → capacity clients ≡ Some count → inserted hardware_cmp clients client key ≡ with_pair hardware_cmp (pairs clients) client key
+takes_pair (Borrowed places) count client key is = refl
+takes_pair (Owned tree) count client key is = absurd (none_some count is)
+
+never_refused : (clients : ManagedMap EthernetAddress SlotKey) (count : ℕ) (client : EthernetAddress) (key : SlotKey) (error : InsertError EthernetAddress SlotKey)
+    → capacity clients ≡ Some count → length (pairs clients) < count → IsRefusal hardware_cmp clients client key error → ⊥
+never_refused (Borrowed places) count client key (Full k v) is room refusal = absurd (omega (arith, same_some (length places.now) count is, refusal.0, room))
+never_refused (Owned tree) count client key (Full k v) is room refusal = none_some count is
+never_refused clients count client key NoMemory is room refusal = none_some count (sym refusal.0 ∙ is)
+
+pub inserts : {P : Type 0} (clients : ManagedMap EthernetAddress SlotKey) (count : ℕ) (client : EthernetAddress) (key : SlotKey)
+    (result : Result (Option SlotKey) (InsertError EthernetAddress SlotKey))
+    → capacity clients ≡ Some count → length (pairs clients) < count
+    → IfErr result (IsRefusal hardware_cmp clients client key) → OnOk result P → P
+inserts clients count client key (Ok old) is room cause done = done
+inserts clients count client key (Err error) is room cause done = absurd (never_refused clients count client key error is room cause)

@@ -1,13 +1,14 @@
 //! Which addresses of the range are held, marked in one walk over the clients.
 ghost use Rattle.std.specs.Prelude.{◌≡◌, ℕ, ◌+◌, ◌-◌, ◌^◌, ◌<◌, ◌≤◌, false, length, Bool, slice_index_or};
 ghost use Rattle.lease_server.specs.Holders.{later_end, marked};
+ghost use Rattle.lease_server.specs.Holdings.{same_hardware};
 ghost use Rattle.lease_server.specs.Replies.{first_free};
 ghost use Rattle.lease_server.specs.State.{held_of, micros_of};
 ghost use Rattle.lease_server.specs.Values.{number_of};
 
 use crate::Lease;
 use crate::values::{address_of, number_of};
-use net_wire::{Instant, Ipv4Address};
+use net_wire::{EthernetAddress, Instant, Ipv4Address};
 
 /// The microseconds of an instant, from moment 0 on.
 pub(crate) fn micros_of(instant: Instant) -> u64
@@ -34,6 +35,13 @@ pub(crate) fn later(lease: Lease, address: Ipv4Address, end: u64) -> Instant
         return lease.until;
     }
     instant_at(end)
+}
+
+/// Whether two hardware addresses are the same.
+pub(crate) fn is_same(one: EthernetAddress, other: EthernetAddress) -> bool
+    ensures { result ≡ same_hardware one other }
+{
+    one == other
 }
 
 /// Marks the address of a lease that is held at an instant.

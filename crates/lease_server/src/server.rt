@@ -1,6 +1,6 @@
 //! The server.
 use crate::lease::Lease;
-use crate::marks::{first_unmarked, instant_at, later, mark, micros_of};
+use crate::marks::{first_unmarked, instant_at, is_same, later, mark, micros_of};
 use crate::replies::{discover_reply, release_reply};
 use crate::values::number_of;
 use crate::{Reply, ServerError, ServerValues, Silence};
@@ -205,7 +205,7 @@ impl<'a> Server<'a> {
         ensures last { self.new.last ≡ self.old.last }
     {
         if let Some(other) = self.owner(address) {
-            if other != client {
+            if !is_same(other, client) {
                 self.evict(other);
             }
         }

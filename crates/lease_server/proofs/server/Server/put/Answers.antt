@@ -1,0 +1,40 @@
+use Rattle.std.proofs.Common.{◌≡◌, ◌<◌, ℕ, sym, ap, ◌∙◌, Some, None, subst, length, refl, true, arith, rules}
+use Rattle.managed.specs.SortedMap.{pairs, value_at}
+use Rattle.managed.specs.SlotMap.{elements_of, places_of}
+use Rattle.managed.specs.SlotTable.{key_handed_out, handed_out, IsFullTable}
+use Rattle.net_wire.specs.declared.address.EthernetAddress.{EthernetAddress}
+use Rattle.lease_server.specs.Inside.{IsServing, state_inside}
+use Rattle.lease_server.specs.declared.server.Server.TheInside.{Inside}
+use Rattle.lease_server.specs.declared.lease.Lease.{Lease}
+use Rattle.lease_server.specs.Replies.{is_of_range}
+use Rattle.lease_server.specs.State.{ServerState, hardware_cmp}
+use Rattle.lease_server.specs.Holders.{stores}
+use Rattle.lease_server.specs.Values.{values_of, number_of}
+use Rattle.lease_server.proofs.ServeLemmas.{prolongs_server, prolonged_server, admits_server, admitted_server, never_full}
+use Rattle.lease_server.proofs.server.Server.put.Goals as goal
+
+pub invariant_of-self : goal.invariant_of-self
+invariant_of-self c = prolongs_server c.self.inside c.self.invariant c.args.self.now c.self.view_is c.args.lease c.requires.within c.requires.alone c.in-Some.key
+    (sym c.get.ensures ∙ sym c.copied.ensures ∙ c.in-Some.is) c.replace.new.self c.replace.result c.replace.ensures.found c.replace.ensures.written c.replace.ensures.others
+
+pub returns-in-Some-clause-holds : goal.returns-in-Some-clause-holds
+returns-in-Some-clause-holds c = prolonged_server c.self.inside c.self.invariant c.args.self.now c.self.view_is c.args.lease c.requires.within c.requires.alone c.in-Some.key
+    (sym c.get.ensures ∙ sym c.copied.ensures ∙ c.in-Some.is) c.replace.new.self c.replace.result c.replace.ensures.found c.replace.ensures.written c.replace.ensures.others
+
+pub invariant_of-self-in-Some-hand_out : goal.invariant_of-self-in-Some-hand_out
+invariant_of-self-in-Some-hand_out c = admits_server c.self.inside c.self.invariant c.args.self.now c.self.view_is c.args.lease c.requires.within c.requires.alone
+    (sym c.get.ensures ∙ sym c.copied.ensures ∙ c.in-None.is) c.in-Some-hand_out.key c.in-Some-hand_out.ensures.value c.in-Some-hand_out.ensures.room
+    c.hand_out.new.self c.in-Some-hand_out.ensures.places c.in-Some-hand_out.ensures.others
+    c.replace-in-Some-hand_out.new.self c.replace-in-Some-hand_out.result c.replace-in-Some-hand_out.ensures.found c.replace-in-Some-hand_out.ensures.written
+    c.replace-in-Some-hand_out.ensures.others c.insert.new.self c.insert.result c.insert.ensures.cause c.insert.ensures.ok c.insert.ensures.sorted c.insert.ensures.within
+
+pub returns-in-Some-hand_out-clause-holds : goal.returns-in-Some-hand_out-clause-holds
+returns-in-Some-hand_out-clause-holds c = admitted_server c.self.inside c.self.invariant c.args.self.now c.self.view_is c.args.lease c.requires.within c.requires.alone
+    (sym c.get.ensures ∙ sym c.copied.ensures ∙ c.in-None.is) c.in-Some-hand_out.key c.in-Some-hand_out.ensures.value c.in-Some-hand_out.ensures.room
+    c.hand_out.new.self c.in-Some-hand_out.ensures.places c.in-Some-hand_out.ensures.others
+    c.replace-in-Some-hand_out.new.self c.replace-in-Some-hand_out.result c.replace-in-Some-hand_out.ensures.found c.replace-in-Some-hand_out.ensures.written
+    c.replace-in-Some-hand_out.ensures.others c.insert.new.self c.insert.result c.insert.ensures.cause c.insert.ensures.ok c.insert.ensures.sorted c.insert.ensures.within
+
+pub returns-in_default-clause-holds : goal.returns-in_default-clause-holds
+returns-in_default-clause-holds c = λ other. absurd (never_full c.self.inside c.self.invariant c.args.self.now c.self.view_is c.args.lease c.requires.within c.requires.alone
+    (sym c.get.ensures ∙ sym c.copied.ensures ∙ c.in-None.is) (c.in_default.ensures.refuses.0 refl))
