@@ -7,3 +7,4 @@ pub mod PutLemmas
 pub mod RoomLemmas
 pub mod GiveLemmas
 pub mod ServeLemmas
+pub mod AnswerLemmas

@@ -84,6 +84,7 @@ not_not false is = absurd (cc)
 pub record IsAccepted (values : Values) : Type 0 where
   pub prefix : is_prefix values.prefix_len ≡ true
   pub range : is_range values ≡ true
+  pub lease : (values.lease_secs == 0) ≡ false
   pub servers : are_unicast values.dns_servers ≡ true
 
 abbrev after_router : Values → Option ServerError
@@ -115,6 +116,7 @@ accepted values none =
     record {
       prefix = not_not (is_prefix values.prefix_len) (passed (not (is_prefix values.prefix_len)) error.Prefix (after_prefix values) third);
       range = not_not (is_range values) (passed (not (is_range values)) error.Range (after_range values) fourth);
+      lease = passed (values.lease_secs == 0) error.Lease (after_lease values) fifth;
       servers = not_not (are_unicast values.dns_servers) (passed (not (are_unicast values.dns_servers)) error.Dns None seventh);
     }
 
