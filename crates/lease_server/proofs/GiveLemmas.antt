@@ -112,7 +112,7 @@ is_there : (o : Option Held) (at number : ℕ) → holds_number (held_at at o) n
 is_there None at number holds = absurd (true_false false holds refl)
 is_there (Some held) at number holds = (held, refl)
 
-or_right : (a b : Bool) → b ≡ true → a || b ≡ true
+pub or_right : (a b : Bool) → b ≡ true → a || b ≡ true
 or_right true b is = refl
 or_right false b is = is
 
@@ -137,7 +137,7 @@ pub record IsFree (taken : ℕ → Bool) (first count : ℕ) (address : Ipv4Addr
   pub below : number_of address < first + count
   pub free : taken (number_of address) ≡ false
 
-same_address : (one other : Ipv4Address) → Some one ≡ Some other → one ≡ other
+pub same_address : (one other : Ipv4Address) → Some one ≡ Some other → one ≡ other
 same_address one other same = cc
 
 pub is_free : (taken : ℕ → Bool) (first count : ℕ) (address : Ipv4Address) → first + count ≤ 4294967296 → first_free taken first count ≡ Some address

@@ -8,3 +8,6 @@ pub mod RoomLemmas
 pub mod GiveLemmas
 pub mod ServeLemmas
 pub mod AnswerLemmas
+pub mod LawLemmas
+pub mod CallLemmas
+pub mod ReadLemmas

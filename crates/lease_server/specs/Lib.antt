@@ -4,3 +4,6 @@ pub mod Replies
 pub mod State
 pub mod Holders
 pub mod Inside
+pub mod Messages
+pub mod Calls
+pub mod Laws

@@ -1,8 +1,10 @@
 //! A DHCP server for those who test clients (RFC 2131, section 4.3): it never gives one address to two clients.
 #![tactic(auto)]
 
+pub mod laws;
 mod lease;
 mod marks;
+mod messages;
 mod replies;
 mod reply;
 mod server;

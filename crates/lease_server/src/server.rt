@@ -46,6 +46,7 @@ impl<'a> Server<'a> {
     ghost use Rattle.lease_server.specs.Holdings.{same_hardware, held_up_to, held_after_reply};
     ghost use Rattle.lease_server.specs.Replies.{is_of_range, lowest_free, reply_to};
     ghost use Rattle.lease_server.specs.State.{Answers, IsFair, Held, hardware_cmp, held_of, holding, is_taken, micros_of, new_server, given};
+    ghost use Rattle.lease_server.specs.Messages.{reply_message};
     ghost use Rattle.lease_server.specs.Holders.{CanHold, IsOwner, stores};
 
     /// The first value that is refused, in the order of `ServerError`.
@@ -269,5 +270,21 @@ impl<'a> Server<'a> {
         self.last = at;
         let _ = &self.leases;
         reply
+    }
+
+    /// The message of a reply to a request, to be sent to all stations; none for silence.
+    pub fn message(&self, request: &DhcpRepr<'_>, reply: &Reply) -> Option<DhcpRepr<'_>>
+        ensures { option_map message_of result ≡ reply_message self.now.values (message_of request.now) reply.now }
+    {
+        match *reply {
+            Reply::Offer(address) => {
+                Some(self.values.granting(request, DhcpMessageType::Offer, address))
+            }
+            Reply::Ack(address) => {
+                Some(self.values.granting(request, DhcpMessageType::Ack, address))
+            }
+            Reply::Nak => Some(self.values.refusing(request)),
+            Reply::Silent(_) => None,
+        }
     }
 }
