@@ -15,7 +15,7 @@ pub answers_with : (now : ℕ) (message : Message) (what : Reply) (old left new 
     → refused old.values ≡ None → left.values ≡ old.values → new.values ≡ left.values → new.holders ≡ left.holders → new.last ≡ now
     → what ≡ reply_to old.values (holding old.holders message.client_hardware_address now) (is_taken old.holders now) message
     → ((client : EthernetAddress) (at : ℕ) → now ≤ at → holding left.holders client at
-        ≡ cond (same_hardware message.client_hardware_address client) (held_after_reply old.values now what at (holding old.holders client at)) (holding old.holders client at))
+    ≡ cond (same_hardware message.client_hardware_address client) (held_after_reply old.values now what at (holding old.holders client at)) (holding old.holders client at))
     → Answers now message what old new
 answers_with now message what old left new checked kept same held last replies holds = record {
   replies = replies;
@@ -24,7 +24,7 @@ answers_with now message what old left new checked kept same held last replies h
       ap (λ (h : Holders). holding h message.client_hardware_address now) held
       ∙ holds message.client_hardware_address now (omega arith)
       ∙ ap (λ (b : Bool). cond b (held_after_reply old.values now what now (holding old.holders message.client_hardware_address now)) (holding old.holders message.client_hardware_address now))
-          (itself message.client_hardware_address)
+      (itself message.client_hardware_address)
       ∙ held_at_once old.values now what address (holding old.holders message.client_hardware_address now) checked gives_it;
   same = same ∙ kept;
   last = last;

@@ -21,11 +21,11 @@ client_of_call : (values : Values) (test : EthernetAddress → Bool) (calls : Li
 client_of_call values test [] client at number holds is = absurd (true_false false holds refl)
 client_of_call values test (call ∷ before) client at number holds is = by_test (same_hardware call.client client)
     (λ hit. let here : test call.client ≡ true = ap test (same_client call.client client hit) ∙ is in
-      ap (λ (b : Bool). b || list_any (λ call. test call.client) before) here)
+    ap (λ (b : Bool). b || list_any (λ call. test call.client) before) here)
     (λ miss. or_right (test call.client) (list_any (λ call. test call.client) before)
-      (client_of_call values test before client at number
-        (sym (ap (λ (b : Bool). holds_number (cond b (held_after_reply values call.at call.reply at (held_by values before client at)) (held_by values before client at)) number) miss) ∙ holds)
-        is))
+    (client_of_call values test before client at number
+    (sym (ap (λ (b : Bool). holds_number (cond b (held_after_reply values call.at call.reply at (held_by values before client at)) (held_by values before client at)) number) miss) ∙ holds)
+    is))
 
 same_tests : (one other : Bool) → (one ≡ true → other ≡ true) → (other ≡ true → one ≡ true) → one ≡ other
 same_tests true other there back = sym (there refl)
@@ -43,12 +43,12 @@ module _ (values : Values) (calls : List Call) (now : ℕ) (message : Message) (
   taken_alike : (number : ℕ) → is_taken old.holders now number ≡ is_taken_by values calls now number
   taken_alike number = same_tests (is_taken old.holders now number) (is_taken_by values calls now number)
       (λ taken. let found = any_gives (λ holder. holds_number (holding old.holders holder.0 now) number) old.holders taken in
-        let holds : holds_number (held_by values calls found.0.0 now) number ≡ true
-              = ap (λ (o : Option Ipv4Address). holds_number o number) (sym (agrees.holds found.0.0 now later)) ∙ found.1 in
-        client_of_call values (λ c. holds_number (held_by values calls c now) number) calls found.0.0 now number holds holds)
+      let holds : holds_number (held_by values calls found.0.0 now) number ≡ true
+      = ap (λ (o : Option Ipv4Address). holds_number o number) (sym (agrees.holds found.0.0 now later)) ∙ found.1 in
+      client_of_call values (λ c. holds_number (held_by values calls c now) number) calls found.0.0 now number holds holds)
       (λ taken. let found = any_gives (λ call. holds_number (held_by values calls call.client now) number) calls taken in
-        taken_by old.holders found.0.client now number
-          (ap (λ (o : Option Ipv4Address). holds_number o number) (agrees.holds found.0.client now later) ∙ found.1))
+      taken_by old.holders found.0.client now number
+      (ap (λ (o : Option Ipv4Address). holds_number o number) (agrees.holds found.0.client now later) ∙ found.1))
 
   abbrev client : EthernetAddress
   client = message.client_hardware_address
@@ -59,7 +59,7 @@ module _ (values : Values) (calls : List Call) (now : ℕ) (message : Message) (
       ∙ ap (λ (v : Values). reply_to v (holding old.holders client now) (is_taken old.holders now) message) agrees.same
       ∙ ap (λ (mine : Option Ipv4Address). reply_to values mine (is_taken old.holders now) message) (agrees.holds client now later)
       ∙ ap (λ (free : Option Ipv4Address). reply_by values (held_by values calls client now) free message message.message_type)
-          (alike_free (is_taken old.holders now) (is_taken_by values calls now) taken_alike (first_number values) values.count)
+      (alike_free (is_taken old.holders now) (is_taken_by values calls now) taken_alike (first_number values) values.count)
 
   agrees_after : Agrees values (call_for values calls now message ∷ calls) new
   agrees_after = record {

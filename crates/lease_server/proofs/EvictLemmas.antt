@@ -27,8 +27,8 @@ pub removed : (keys : Keys) (client other : EthernetAddress) → IsStrictlySorte
     ≡ cond (same_hardware client other) None (value_at hardware_cmp keys other)
 removed keys client other sorted =
     lookup-remove_entry (eq_by_cmp_equiv hardware_order) (is_at (hardware_cmp client))
-      (λ one its found. (eq_by_cmp_equiv hardware_order).congr client one its found)
-      other keys (IsDistinct-from_sorted hardware_cmp (keys_of keys) sorted)
+    (λ one its found. (eq_by_cmp_equiv hardware_order).congr client one its found)
+    other keys (IsDistinct-from_sorted hardware_cmp (keys_of keys) sorted)
     ∙ rw (keys_tie client other) refl
 
 one_less : {V : Type 0} (test : EthernetAddress → Bool) (pairs : List (EthernetAddress × V)) (value : V)
@@ -66,7 +66,7 @@ module _ (values : Values) (keys : Keys) (leases : List Lease) (table : SlotUse)
       → value_at hardware_cmp keys client ≡ Some key → AreHolders values rest leases (freed_at table key.place)
   evicts sorted holders found =
       let was = λ (other : EthernetAddress) (its : SlotKey) (is : value_at hardware_cmp rest other ≡ Some its).
-          kept_out (same_hardware client other) (value_at hardware_cmp keys other) its (sym (removed keys client other sorted) ∙ is) in
+      kept_out (same_hardware client other) (value_at hardware_cmp keys other) its (sym (removed keys client other sorted) ∙ is) in
       record {
         sound = sound_freed table key.place holders.sound (some_is _ key.generation (holders.live client key found));
         size = holders.size;

@@ -43,7 +43,7 @@ module _ (values : Values) (keys : Keys) (leases : List Lease) (table : SlotUse)
       → stores (holders_in keys leases) other number ≡ true → one ≡ other
   only_one one other number has its =
       by_stored one number has (λ key found is. by_stored other number its (λ third its_found its_is.
-        holders.apart one other key third found its_found (is ∙ sym its_is)))
+      holders.apart one other key third found its_found (is ∙ sym its_is)))
 
   pub stored_within : (client : EthernetAddress) (address : Ipv4Address) → stores (holders_in keys leases) client (number_of address) ≡ true
       → is_of_range values address ≡ true
@@ -80,9 +80,9 @@ module _ (old new : Holders) (owner : EthernetAddress) (number : ℕ) (owns_it :
   pub nobody_left : (other : EthernetAddress) → stores new other number ≡ true → ⊥
   nobody_left other has =
       let parts = taken_out (same_hardware owner other) (value_at hardware_cmp old other) number
-            (sym (ap (λ (o : Option Held). has_number o number) (evicted other)) ∙ has) in
+      (sym (ap (λ (o : Option Held). has_number o number) (evicted other)) ∙ has) in
       true_false (same_hardware owner other)
-        (ap (λ (o : EthernetAddress). same_hardware owner o) (owns_it.only other parts.1) ∙ itself owner) parts.0
+      (ap (λ (o : EthernetAddress). same_hardware owner o) (owns_it.only other parts.1) ∙ itself owner) parts.0
 
   pub mine_kept : (client : EthernetAddress) → same_hardware owner client ≡ false → value_at hardware_cmp new client ≡ value_at hardware_cmp old client
   mine_kept client apart = evicted client ∙ rw apart refl
@@ -91,11 +91,11 @@ module _ (old new : Holders) (owner : EthernetAddress) (number : ℕ) (owns_it :
       → same_hardware owner client ≡ false → (other : EthernetAddress) (at : ℕ) → now ≤ at → holding new other at ≡ holding old other at
   others_kept values now client address is can apart other at later = by_test (same_hardware owner other)
       (λ hit. ap (held_at at) (evicted other ∙ ap (λ (b : Bool). cond b None (value_at hardware_cmp old other)) hit)
-        ∙ sym (ap (λ (o : EthernetAddress). holding old o at) (sym (same_client owner other hit))
-          ∙ ⊎_elim
-              (λ same. absurd (true_false (same_hardware owner client) (ap (λ (o : EthernetAddress). same_hardware owner o) (sym same) ∙ itself owner) apart))
-              (λ ended. still_ended (value_at hardware_cmp old owner) now at later ended)
-              (can.free owner (ap (stores old owner) is ∙ owns_it.has))))
+      ∙ sym (ap (λ (o : EthernetAddress). holding old o at) (sym (same_client owner other hit))
+      ∙ ⊎_elim
+      (λ same. absurd (true_false (same_hardware owner client) (ap (λ (o : EthernetAddress). same_hardware owner o) (sym same) ∙ itself owner) apart))
+      (λ ended. still_ended (value_at hardware_cmp old owner) now at later ended)
+      (can.free owner (ap (stores old owner) is ∙ owns_it.has))))
       (λ miss. ap (held_at at) (mine_kept other miss))
 
 -- ---- what is held is had
@@ -121,9 +121,9 @@ any_client : (test : EthernetAddress → Bool) (holders : Holders) (client : Eth
 any_client test [] client held found is = absurd (none_some held found)
 any_client test (holder ∷ rest) client held found is = by_test (is_eq (hardware_cmp client holder.0))
     (λ hit. let here : test holder.0 ≡ true = ap test (sym (same_client client holder.0 (sym (keys_tie client holder.0) ∙ hit))) ∙ is in
-      ap (λ (b : Bool). b || list_any (λ holder. test holder.0) rest) here)
+    ap (λ (b : Bool). b || list_any (λ holder. test holder.0) rest) here)
     (λ miss. or_right (test holder.0) (list_any (λ holder. test holder.0) rest)
-      (any_client test rest client held (sym (ap (λ (b : Bool). cond b (Some holder.1) (value_at hardware_cmp rest client)) miss) ∙ found) is))
+    (any_client test rest client held (sym (ap (λ (b : Bool). cond b (Some holder.1) (value_at hardware_cmp rest client)) miss) ∙ found) is))
 
 pub taken_by : (holders : Holders) (client : EthernetAddress) (at number : ℕ) → holds_number (holding holders client at) number ≡ true
     → is_taken holders at number ≡ true
@@ -145,11 +145,11 @@ pub is_free : (taken : ℕ → Bool) (first count : ℕ) (address : Ipv4Address)
 is_free taken first zero address fits found = absurd (none_some address found)
 is_free taken first (suc count) address fits found = by_test (taken first)
     (λ hit. let rest = is_free taken (first + 1) count address (omega arith)
-              (sym (ap (λ (b : Bool). cond b (first_free taken (first + 1) count) (Some (address_of first))) hit) ∙ found) in
-      record { from = omega (arith, rest.from); below = omega (arith, rest.below); free = rest.free })
+    (sym (ap (λ (b : Bool). cond b (first_free taken (first + 1) count) (Some (address_of first))) hit) ∙ found) in
+    record { from = omega (arith, rest.from); below = omega (arith, rest.below); free = rest.free })
     (λ miss. let it = same_address (address_of first) address (sym (ap (λ (b : Bool). cond b (first_free taken (first + 1) count) (Some (address_of first))) miss) ∙ found) in
-      let number : number_of address ≡ first = sym (ap number_of it) ∙ from_be_bytes-to_be_bytes_4 first (omega arith) in
-      record { from = omega (arith, number); below = omega (arith, number); free = ap taken number ∙ miss })
+    let number : number_of address ≡ first = sym (ap number_of it) ∙ from_be_bytes-to_be_bytes_4 first (omega arith) in
+    record { from = omega (arith, number); below = omega (arith, number); free = ap taken number ∙ miss })
 
 -- ---- what a reply gives: what its client holds, or the lowest free address
 abbrev Gives : Option Ipv4Address → Option Ipv4Address → Ipv4Address → Type 0
@@ -240,14 +240,14 @@ module _ (values : Values) (keys : Keys) (leases : List Lease) (table : SlotUse)
       (λ holds. can_keep now client address holds)
       (λ free. can_take now client address checked free)
       (gives values (holding (holders_in keys leases) client now) (lowest_free values (is_taken (holders_in keys leases) now)) message message.message_type address
-        (sym (ap given is) ∙ gives_it))
+      (sym (ap given is) ∙ gives_it))
 
   pub is_fair : (last : ℕ) → IsFair (record { values = values; holders = holders_in keys leases; last = last })
   is_fair last = record {
     alone = λ one other at mine its later one_holds other_holds same. only_one values keys leases table holders one other (number_of mine)
         (held_stored (value_at hardware_cmp (holders_in keys leases) one) at (number_of mine) (holds_own _ mine one_holds))
         (held_stored (value_at hardware_cmp (holders_in keys leases) other) at (number_of mine)
-          (ap (holds_number (holding (holders_in keys leases) other at)) same ∙ holds_own _ its other_holds));
+        (ap (holds_number (holding (holders_in keys leases) other at)) same ∙ holds_own _ its other_holds));
     within = λ client at address later holds. stored_within values keys leases table holders client address
         (held_stored (value_at hardware_cmp (holders_in keys leases) client) at (number_of address) (holds_own _ address holds));
   }

@@ -27,13 +27,13 @@ lower_taken : (taken : ℕ → Bool) (first count : ℕ) (address : Ipv4Address)
 lower_taken taken first zero address fits found number from below = absurd (none_some address found)
 lower_taken taken first (suc count) address fits found number from below = by_test (taken first)
     (λ hit. by_test (nat_eq number first)
-        (λ same. ap taken (eqb-true number first same) ∙ hit)
-        (λ other. lower_taken taken (first + 1) count address (omega arith)
-            (sym (ap (λ (b : Bool). cond b (first_free taken (first + 1) count) (Some (address_of first))) hit) ∙ found)
-            number (omega (arith, eqb-false number first other)) below))
+    (λ same. ap taken (eqb-true number first same) ∙ hit)
+    (λ other. lower_taken taken (first + 1) count address (omega arith)
+    (sym (ap (λ (b : Bool). cond b (first_free taken (first + 1) count) (Some (address_of first))) hit) ∙ found)
+    number (omega (arith, eqb-false number first other)) below))
     (λ miss. let it = same_address (address_of first) address (sym (ap (λ (b : Bool). cond b (first_free taken (first + 1) count) (Some (address_of first))) miss) ∙ found) in
-      let lowest : number_of address ≡ first = sym (ap number_of it) ∙ from_be_bytes-to_be_bytes_4 first (omega arith) in
-      absurd (omega (arith, lowest, from, below)))
+    let lowest : number_of address ≡ first = sym (ap number_of it) ∙ from_be_bytes-to_be_bytes_4 first (omega arith) in
+    absurd (omega (arith, lowest, from, below)))
 
 pub free_is_lowest : FreeIsLowest
 free_is_lowest values taken address checked found =
@@ -51,10 +51,10 @@ none_free : (taken : ℕ → Bool) (first count : ℕ) → first_free taken firs
 none_free taken first zero none number from below = absurd (omega arith)
 none_free taken first (suc count) none number from below = by_test (taken first)
     (λ hit. by_test (nat_eq number first)
-        (λ same. ap taken (eqb-true number first same) ∙ hit)
-        (λ other. none_free taken (first + 1) count
-            (sym (ap (λ (b : Bool). cond b (first_free taken (first + 1) count) (Some (address_of first))) hit) ∙ none)
-            number (omega (arith, eqb-false number first other)) (omega arith)))
+    (λ same. ap taken (eqb-true number first same) ∙ hit)
+    (λ other. none_free taken (first + 1) count
+    (sym (ap (λ (b : Bool). cond b (first_free taken (first + 1) count) (Some (address_of first))) hit) ∙ none)
+    number (omega (arith, eqb-false number first other)) (omega arith)))
     (λ miss. absurd (none_some (address_of first) (sym none ∙ ap (λ (b : Bool). cond b (first_free taken (first + 1) count) (Some (address_of first))) miss)))
 
 all_taken : (taken : ℕ → Bool) (first count : ℕ) → ((number : ℕ) → first ≤ number → number < first + count → taken number ≡ true)
@@ -99,7 +99,7 @@ request : (values : Values) (mine : Option Ipv4Address) (message : Message) (ser
 request values mine message None = renewal values mine (renewed message)
 request values mine message (Some server) =
     either (nat_eq (number_of server) (number_of values.address)) (selected_reply mine message.requested_ip) (reply.Silent silence.Other)
-      (selected mine message.requested_ip) refl
+    (selected mine message.requested_ip) refl
 
 release : (mine : Option Ipv4Address) (address : Ipv4Address) → is_full (release_reply mine address) ≡ false
 release mine address = either (holds_it mine address) (reply.Silent silence.Released) (reply.Silent silence.Stale) refl refl
@@ -127,11 +127,12 @@ full_means values mine taken message kind.Inform full = never (reply.Silent sile
 full_means values mine taken message (kind.Unknown number) full = never (reply.Silent silence.Unwanted) refl full
 
 pub full_is_exact : FullIsExact
-full_is_exact values mine taken message =
-    ((λ full. full_means values mine taken message message.message_type full),
-     (λ at. ap (reply_by values mine (lowest_free values taken) message) at.0
-       ∙ ap (λ (held : Option Ipv4Address). discover_reply held (lowest_free values taken)) at.1
-       ∙ ap (discover_reply None) (all_taken taken (first_number values) values.count at.2)))
+full_is_exact values mine taken message = (
+  (λ full. full_means values mine taken message message.message_type full),
+  (λ at. ap (reply_by values mine (lowest_free values taken) message) at.0
+      ∙ ap (λ (held : Option Ipv4Address). discover_reply held (lowest_free values taken)) at.1
+      ∙ ap (discover_reply None) (all_taken taken (first_number values) values.count at.2)),
+)
 
 -- ---- what is taken
 pub any_gives : {X : Type 0} (test : X → Bool) (xs : List X) → list_any test xs ≡ true → (x : X) × (test x ≡ true)
@@ -141,6 +142,7 @@ any_gives test (x ∷ xs) is = by_test (test x)
     (λ miss. any_gives test xs (sym (ap (λ (b : Bool). b || list_any test xs) miss) ∙ is))
 
 pub taken_is_held : TakenIsHeld
-taken_is_held holders at number =
-    ((λ taken. let found = any_gives (λ holder. holds_number (holding holders holder.0 at) number) holders taken in (found.0.0, found.1)),
-     (λ held. taken_by holders held.0 at number held.1))
+taken_is_held holders at number = (
+  (λ taken. let found = any_gives (λ holder. holds_number (holding holders holder.0 at) number) holders taken in (found.0.0, found.1)),
+  (λ held. taken_by holders held.0 at number held.1),
+)

@@ -57,10 +57,10 @@ set_mark : (taken : List Bool) (first at place number : ℕ) (lease : Lease) (re
     ≡ (get_or (marked taken first at lease) place false || rest)
 set_mark taken first at place number lease rest from within below = by_test (nat_lt at (micros_of lease.until))
     (λ held. rw held (by_test (nat_eq (number_of lease.address) (first + place))
-        (λ same. let here : place ≡ number_of lease.address - first = omega (arith, eqb-true (number_of lease.address) (first + place) same) in
-            rw (same, ← here, get_or-set_same taken place true false below) (or_true (get_or taken place false) rest))
-        (λ other. let apart : place ≢ number_of lease.address - first = λ is. eqb-false (number_of lease.address) (first + place) other (omega arith) in
-            rw (other, get_or-set_other) refl)))
+    (λ same. let here : place ≡ number_of lease.address - first = omega (arith, eqb-true (number_of lease.address) (first + place) same) in
+    rw (same, ← here, get_or-set_same taken place true false below) (or_true (get_or taken place false) rest))
+    (λ other. let apart : place ≢ number_of lease.address - first = λ is. eqb-false (number_of lease.address) (first + place) other (omega arith) in
+    rw (other, get_or-set_other) refl)))
     (λ ended. rw ended refl)
 
 pub marks_one : (values : Values) (keys : Keys) (leases : List Lease) (table : SlotUse) (at : ℕ) (taken : List Bool) (pair : EthernetAddress × SlotKey) (left : Keys)
@@ -74,8 +74,8 @@ marks_one values keys leases table at taken pair left checked holders long befor
       own = before.own.1;
       marks = λ place below. before.marks place below
           ∙ rw (finds_some keys leases pair.0 pair.1 before.own.0)
-            (set_mark taken (first_number values) at place 0 (lease_at leases pair.1.place) (any_holds (holders_in keys leases) at left (first_number values + place))
-              place_of.from (omega (arith, place_of.below, count.few)) (omega (arith, count.few)));
+          (set_mark taken (first_number values) at place 0 (lease_at leases pair.1.place) (any_holds (holders_in keys leases) at left (first_number values + place))
+          place_of.from (omega (arith, place_of.below, count.few)) (omega (arith, count.few)));
     }
 
 -- ---- a pair that a walk comes to, and what the table gives of its key
@@ -98,7 +98,7 @@ module _ (values : Values) (keys : Keys) (leases : List Lease) (table : SlotUse)
       let P : Keys → Type 0 = λ k. AreMarked values keys (holders_in keys leases) at taken k in
       let Q : List Bool → Type 0 = λ t. AreMarked values keys (holders_in keys leases) at t rest in
       subst Q (ap (λ (l : Lease). marked taken (first_number values) at l) lies_there ∙ ap (λ (n : ℕ). marked taken n at lease) (sym begins) ∙ sym is)
-        (marks_one values keys leases table at taken pair rest checked holders long (subst P comes before))
+      (marks_one values keys leases table at taken pair rest checked holders long (subst P comes before))
 
 -- ---- the client that has an address
 pub record AreLeft (keys : Keys) (leases : List Lease) (number : ℕ) (left : Keys) : Type 0 where
@@ -117,7 +117,7 @@ pub left_none : (keys : Keys) (leases : List Lease) (number : ℕ) (left : Keys)
     → (client : EthernetAddress) → stores (holders_in keys leases) client number ≡ false
 left_none keys leases number left none before client = by_test (stores (holders_in keys leases) client number)
     (λ hit. absurd (true_false (has_number (option_map (held_under leases) (value_at hardware_cmp left client)) number)
-        (before.finds client hit) (ap (λ (k : Keys). has_number (option_map (held_under leases) (value_at hardware_cmp k client)) number) none)))
+    (before.finds client hit) (ap (λ (k : Keys). has_number (option_map (held_under leases) (value_at hardware_cmp k client)) number) none)))
     (λ miss. miss)
 
 passed_over : (leases : List Lease) (number : ℕ) (client : EthernetAddress) (pair : EthernetAddress × SlotKey) (rest : Keys) (same : Bool)

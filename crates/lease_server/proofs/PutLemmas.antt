@@ -79,7 +79,7 @@ module _ (values : Values) (keys new_keys : Keys) (leases : List Lease) (table n
       → (client ≡ other → key ≡ its → P) → (same_hardware client other ≡ false → value_at hardware_cmp keys other ≡ Some its → P) → P
   by_found other its is mine others = by_test (same_hardware client other)
       (λ hit. mine (same_client client other hit)
-          (same_some key its (sym (p.finds other ∙ ap (λ (b : Bool). cond b (Some key) (value_at hardware_cmp keys other)) hit) ∙ is)))
+      (same_some key its (sym (p.finds other ∙ ap (λ (b : Bool). cond b (Some key) (value_at hardware_cmp keys other)) hit) ∙ is)))
       (λ miss. others miss (sym (p.finds other ∙ ap (λ (b : Bool). cond b (Some key) (value_at hardware_cmp keys other)) miss) ∙ is))
 
   beside : (other : EthernetAddress) (its : SlotKey) → same_hardware client other ≡ false → value_at hardware_cmp keys other ≡ Some its
@@ -93,7 +93,7 @@ module _ (values : Values) (keys new_keys : Keys) (leases : List Lease) (table n
       → number_of (lease_at new_leases its.place).address ≡ number_of lease.address → other ≡ client
   taken_twice other its miss was same = p.alone other
       (stored keys leases other its (number_of lease.address) was
-        (sym (ap (λ (l : Lease). number_of l.address) (beside other its miss was)) ∙ same))
+      (sym (ap (λ (l : Lease). number_of l.address) (beside other its miss was)) ∙ same))
 
   pub put_holders : AreHolders values new_keys new_leases new_table
   put_holders = record {
@@ -113,12 +113,12 @@ module _ (values : Values) (keys new_keys : Keys) (leases : List Lease) (table n
         (λ miss was. ap (λ (l : Lease). is_of_range values l.address) (beside other its miss was) ∙ p.old.placed other its was);
     apart = λ one other its third is third_is alike. by_found one its is
         (λ same k. by_found other third third_is
-          (λ same_too k_too. sym same ∙ same_too)
-          (λ miss was. sym same ∙ sym (taken_twice other third miss was (sym alike ∙ ap (λ (l : Lease). number_of l.address) (under its k)))))
+        (λ same_too k_too. sym same ∙ same_too)
+        (λ miss was. sym same ∙ sym (taken_twice other third miss was (sym alike ∙ ap (λ (l : Lease). number_of l.address) (under its k)))))
         (λ miss was. by_found other third third_is
-          (λ same k. taken_twice one its miss was (alike ∙ ap (λ (l : Lease). number_of l.address) (under third k)) ∙ same)
-          (λ no_too was_too. p.old.apart one other its third was was_too
-            (sym (ap (λ (l : Lease). number_of l.address) (beside one its miss was)) ∙ alike ∙ ap (λ (l : Lease). number_of l.address) (beside other third no_too was_too))));
+        (λ same k. taken_twice one its miss was (alike ∙ ap (λ (l : Lease). number_of l.address) (under third k)) ∙ same)
+        (λ no_too was_too. p.old.apart one other its third was was_too
+        (sym (ap (λ (l : Lease). number_of l.address) (beside one its miss was)) ∙ alike ∙ ap (λ (l : Lease). number_of l.address) (beside other third no_too was_too))));
   }
 
   other_kept : (other : EthernetAddress) (o : Option SlotKey) → value_at hardware_cmp keys other ≡ o → same_hardware client other ≡ false
@@ -131,8 +131,8 @@ module _ (values : Values) (keys new_keys : Keys) (leases : List Lease) (table n
   put_found other =
       found_under new_keys new_leases other ∙ ap (option_map (held_under new_leases)) (p.finds other)
       ∙ by_test (same_hardware client other)
-          (λ hit. rw hit (ap (λ (l : Lease). Some (held_of l)) here))
-          (λ miss. rw miss (other_kept other (value_at hardware_cmp keys other) refl miss ∙ sym (found_under keys leases other)))
+      (λ hit. rw hit (ap (λ (l : Lease). Some (held_of l)) here))
+      (λ miss. rw miss (other_kept other (value_at hardware_cmp keys other) refl miss ∙ sym (found_under keys leases other)))
 
 -- ---- another lease in the client's own place
 pub prolongs : (values : Values) (keys : Keys) (leases : List Lease) (table : SlotUse) (client : EthernetAddress) (key : SlotKey) (lease : Lease)
@@ -168,7 +168,7 @@ module _ (values : Values) (keys new_keys : Keys) (leases : List Lease) (table n
       let Q : List Lease → Type 0 = λ l. AreHolders values new_keys l left_table in
       let R : SlotUse → Type 0 = λ t. AreHolders values new_keys (set leases key.place lease) t in
       subst P (sym keys_are) (subst Q (sym leases_are) (subst R (sym table_is)
-        (put_holders values keys new_keys leases table new_table client key lease p)))
+      (put_holders values keys new_keys leases table new_table client key lease p)))
 
   pub put_in : (other : EthernetAddress) → value_at hardware_cmp (holders_in left_keys left_leases) other
       ≡ cond (same_hardware client other) (Some (held_of lease)) (value_at hardware_cmp (holders_in keys leases) other)

@@ -91,10 +91,10 @@ read_as sent message read same =
 pub reads_replies : ReadsReplies
 reads_replies values request (reply.Offer address) message checked wide asked four is =
     read_as (granting values request kind.Offer address) message
-      (reads_written (granting values request kind.Offer address) (granting_readable values request checked wide asked kind.Offer address refl four)) is
+    (reads_written (granting values request kind.Offer address) (granting_readable values request checked wide asked kind.Offer address refl four)) is
 reads_replies values request (reply.Ack address) message checked wide asked four is =
     read_as (granting values request kind.Ack address) message
-      (reads_written (granting values request kind.Ack address) (granting_readable values request checked wide asked kind.Ack address refl four)) is
+    (reads_written (granting values request kind.Ack address) (granting_readable values request checked wide asked kind.Ack address refl four)) is
 reads_replies values request reply.Nak message checked wide asked four is =
     read_as (refusing values request) message (reads_written (refusing values request) (refusing_readable values request checked wide asked)) is
 reads_replies values request (reply.Silent why) message checked wide asked four is = absurd (none_some message is)

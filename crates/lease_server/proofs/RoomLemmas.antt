@@ -53,11 +53,12 @@ module _ (values : Values) (keys : Keys) (leases : List Lease) (table : SlotUse)
       → AllByRecursion (λ key. hardware_cmp pair.0 key ≡ Less) (keys_of rest)
       → AllByRecursion (λ place. nat_eq (place_in values leases pair) place ≡ false) (map (place_in values leases) rest)
   apart_from pair [] own owns less = tt
-  apart_from pair (next ∷ rest) own owns less =
-      (ne_eqb (place_in values leases pair) (place_in values leases next) (λ same.
-          less_apart pair.0 next.0 less.0 (holders.apart pair.0 next.0 pair.1 next.1 own owns.0
-            (omega (arith, same, (ranged pair own).from, (ranged next owns.0).from)))),
-        apart_from pair rest own owns.1 less.1)
+  apart_from pair (next ∷ rest) own owns less = (
+    ne_eqb (place_in values leases pair) (place_in values leases next) (λ same.
+        less_apart pair.0 next.0 less.0 (holders.apart pair.0 next.0 pair.1 next.1 own owns.0
+        (omega (arith, same, (ranged pair own).from, (ranged next owns.0).from)))),
+    apart_from pair rest own owns.1 less.1,
+  )
 
   distinct : (pairs : Keys) → IsStrictlySortedBy hardware_cmp (keys_of pairs) → Own keys pairs → IsDistinct nat_eq (map (place_in values leases) pairs)
   unfolding IsStrictlySortedBy IsDistinct
@@ -68,18 +69,19 @@ module _ (values : Values) (keys : Keys) (leases : List Lease) (table : SlotUse)
   below [] owns q is = absurd (true_false false is refl)
   below (pair ∷ rest) owns q is = by_test (nat_eq q (place_in values leases pair))
       (λ hit. let same = eqb-true q (place_in values leases pair) hit in
-        let range = ranged pair owns.0 in omega (arith, same, range.from, range.below))
+      let range = ranged pair owns.0 in omega (arith, same, range.from, range.below))
       (λ miss. below rest owns.1 q (sym (ap (λ (b : Bool). b || list_any (nat_eq q) (map (place_in values leases) rest)) miss) ∙ is))
 
   module _ (number : ℕ) (range : InRange values number)
       (free : (other : EthernetAddress) → stores (holders_in keys leases) other number ≡ true → ⊥) where
     unlike : (pairs : Keys) → Own keys pairs → AllByRecursion (λ place. nat_eq (number - first_number values) place ≡ false) (map (place_in values leases) pairs)
     unlike [] owns = tt
-    unlike (pair ∷ rest) owns =
-        (ne_eqb (number - first_number values) (place_in values leases pair) (λ same.
-            free pair.0 (stored keys leases pair.0 pair.1 number owns.0
-              (omega (arith, same, range.from, (ranged pair owns.0).from)))),
-          unlike rest owns.1)
+    unlike (pair ∷ rest) owns = (
+      ne_eqb (number - first_number values) (place_in values leases pair) (λ same.
+          free pair.0 (stored keys leases pair.0 pair.1 number owns.0
+          (omega (arith, same, range.from, (ranged pair owns.0).from)))),
+      unlike rest owns.1,
+    )
 
     all_distinct : IsStrictlySortedBy hardware_cmp (keys_of keys) → IsDistinct nat_eq ((number - first_number values) ∷ map (place_in values leases) keys)
     unfolding IsDistinct
@@ -94,7 +96,7 @@ module _ (values : Values) (keys : Keys) (leases : List Lease) (table : SlotUse)
     pub has_room : IsStrictlySortedBy hardware_cmp (keys_of keys) → length keys < values.count
     has_room sorted =
         let few : length ((number - first_number values) ∷ map (place_in values leases) keys) ≤ values.count
-              = length-le_from_distinct_below ((number - first_number values) ∷ map (place_in values leases) keys) values.count (all_distinct sorted) (all_below sorted) in
+        = length-le_from_distinct_below ((number - first_number values) ∷ map (place_in values leases) keys) values.count (all_distinct sorted) (all_below sorted) in
         omega (arith, few, as_long (place_in values leases) keys)
 
 -- ---- a place is free
@@ -118,7 +120,7 @@ pub not_full : (values : Values) (keys : Keys) (leases : List Lease) (table : Sl
     → length keys < values.count → IsFullTable table → ⊥
 not_full values keys leases table holders room full =
     not_full_by table.generations table.freed (length keys) table.capacity holders.sound holders.counted
-      (omega (arith, holders.begun, holders.size)) (omega (arith, room, holders.size)) full
+    (omega (arith, holders.begun, holders.size)) (omega (arith, room, holders.size)) full
 
 -- ---- a place is handed out to a client
 longer_taken : (freed : List ℕ) (generations : List (Option ℕ)) (generation : ℕ)
@@ -137,8 +139,11 @@ one_longer [] client key none = omega arith
 one_longer (pair ∷ rest) client key none = by_ordering (hardware_cmp client pair.0)
     (λ less. rw less (omega arith))
     (λ same. absurd (none_some pair.1 (sym none ∙ ap (λ (b : Bool). cond b (Some pair.1) (value_at hardware_cmp rest client)) (ap is_eq same))))
-    (λ greater. rw greater (omega (arith, one_longer rest client key
-        (sym (ap (λ (b : Bool). cond b (Some pair.1) (value_at hardware_cmp rest client)) (ap is_eq greater)) ∙ none))))
+    (λ greater. rw greater (omega (
+      arith,
+      one_longer rest client key
+          (sym (ap (λ (b : Bool). cond b (Some pair.1) (value_at hardware_cmp rest client)) (ap is_eq greater)) ∙ none),
+    )))
 
 pub admits : (values : Values) (keys : Keys) (leases : List Lease) (table : SlotUse) (client : EthernetAddress) (lease : Lease)
     → AreHolders values keys leases table → value_at hardware_cmp keys client ≡ None → length keys < values.count

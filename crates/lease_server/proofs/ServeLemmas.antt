@@ -65,7 +65,7 @@ module _ (server : Inside) (serving : IsServing server) (state : ServerState) (v
         ≡ cond (same_hardware lease.client other) (Some (held_of lease)) (value_at hardware_cmp state.holders other)
     prolonged_server other =
         put_in (values_of server.values) keys keys leases (places_of server.leases) (places_of server.leases) lease.client key lease puts
-          keys (elements_of new) refl is_written other
+        keys (elements_of new) refl is_written other
         ∙ ap (λ (s : ServerState). cond (same_hardware lease.client other) (Some (held_of lease)) (value_at hardware_cmp s.holders other)) view_is
 
   -- ---- the client has none
@@ -73,7 +73,7 @@ module _ (server : Inside) (serving : IsServing server) (state : ServerState) (v
     of_none : (other : EthernetAddress) → stores (holders_in keys leases) other (number_of lease.address) ≡ true → ⊥
     of_none other has = true_false (stores (holders_in keys leases) other (number_of lease.address)) has
         (ap (λ (c : EthernetAddress). stores (holders_in keys leases) c (number_of lease.address)) (of_nobody other has)
-          ∙ ap (λ (o : Option Held). has_number o (number_of lease.address)) (found_under keys leases lease.client ∙ ap (option_map (held_under leases)) none))
+        ∙ ap (λ (o : Option Held). has_number o (number_of lease.address)) (found_under keys leases lease.client ∙ ap (option_map (held_under leases)) none))
 
     pub room : length keys < server.values.count
     room = has_room (values_of server.values) keys leases (places_of server.leases) serving.holders (number_of lease.address)
@@ -129,6 +129,6 @@ module _ (server : Inside) (serving : IsServing server) (state : ServerState) (v
           ≡ cond (same_hardware lease.client other) (Some (held_of lease)) (value_at hardware_cmp state.holders other)
       admitted_server other =
           put_in (values_of server.values) keys (with_pair hardware_cmp keys lease.client (key_handed_out (places_of server.leases))) leases
-            (places_of server.leases) (handed_out (places_of server.leases)) lease.client (key_handed_out (places_of server.leases)) lease admitted
-            (pairs map) (elements_of new) keys_are leases_are other
+          (places_of server.leases) (handed_out (places_of server.leases)) lease.client (key_handed_out (places_of server.leases)) lease admitted
+          (pairs map) (elements_of new) keys_are leases_are other
           ∙ ap (λ (s : ServerState). cond (same_hardware lease.client other) (Some (held_of lease)) (value_at hardware_cmp s.holders other)) view_is

@@ -7,3 +7,4 @@ pub mod Inside
 pub mod Messages
 pub mod Calls
 pub mod Laws
+pub mod Examples

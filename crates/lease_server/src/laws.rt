@@ -11,7 +11,6 @@ pub fn a_server_is_as_called()
 {}
 
 /// The free address that is offered is the lowest one of the range that nobody holds.
-#[tactic(auto, using(crate::proofs::LawLemmas::free_is_lowest))]
 pub fn the_free_address_is_the_lowest()
     ensures { FreeIsLowest }
 {}

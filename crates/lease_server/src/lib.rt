@@ -1,6 +1,7 @@
 //! A DHCP server for those who test clients (RFC 2131, section 4.3): it never gives one address to two clients.
 #![tactic(auto)]
 
+pub mod examples;
 pub mod laws;
 mod lease;
 mod marks;

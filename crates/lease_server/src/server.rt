@@ -76,7 +76,10 @@ impl<'a> Server<'a> {
         Server {
             values,
             clients: ManagedMap::Borrowed(clients),
-            leases: SlotMap::new(ManagedSlice::Borrowed(leases), ManagedSlice::Borrowed(slots)),
+            leases: SlotMap::new(
+                ManagedSlice::Borrowed(leases),
+                ManagedSlice::Borrowed(slots),
+            ),
             last: 0,
         }
     }
@@ -218,7 +221,7 @@ impl<'a> Server<'a> {
         requires small { now + span < 2 ^ 63 }
         ensures holds { (other : EthernetAddress) (at : ℕ) → now ≤ at → holding self.new.holders other at
             ≡ (if same_hardware client other then held_up_to (now + span) address at (holding self.old.holders other at)
-                else holding self.old.holders other at) }
+            else holding self.old.holders other at) }
         ensures same { self.new.values ≡ self.old.values }
         ensures last { self.new.last ≡ self.old.last }
     {
@@ -241,7 +244,7 @@ impl<'a> Server<'a> {
         requires can { (address : Ipv4Address) → given reply ≡ Some address → CanHold self.old.values self.old.holders now client address }
         ensures holds { (other : EthernetAddress) (at : ℕ) → now ≤ at → holding self.new.holders other at
             ≡ (if same_hardware client other then held_after_reply self.old.values now reply at (holding self.old.holders other at)
-                else holding self.old.holders other at) }
+            else holding self.old.holders other at) }
         ensures same { self.new.values ≡ self.old.values }
     {
         match reply {
@@ -278,7 +281,10 @@ impl<'a> Server<'a> {
     {
         match *reply {
             Reply::Offer(address) => {
-                Some(self.values.granting(request, DhcpMessageType::Offer, address))
+                Some(
+                    self.values
+                        .granting(request, DhcpMessageType::Offer, address),
+                )
             }
             Reply::Ack(address) => {
                 Some(self.values.granting(request, DhcpMessageType::Ack, address))

@@ -30,6 +30,6 @@ pub returns-clause-holds : goal.returns-clause-holds
 returns-clause-holds c = λ other.
     let inside = c.self.inside in
     rw (← c.self.view_is) (evicted_in (values_of inside.values) (pairs inside.clients) (elements_of inside.leases) (places_of inside.leases) c.args.client c.in-Some.key
-          (pairs c.remove.new.self) (elements_of c.discard.new.self) (places_of c.discard.new.self)
-          (sorted_keys inside.clients inside.values.count c.self.invariant.sorted c.self.invariant.places)
-          c.remove.ensures.rest c.discard.ensures.others other)
+    (pairs c.remove.new.self) (elements_of c.discard.new.self) (places_of c.discard.new.self)
+    (sorted_keys inside.clients inside.values.count c.self.invariant.sorted c.self.invariant.places)
+    c.remove.ensures.rest c.discard.ensures.others other)

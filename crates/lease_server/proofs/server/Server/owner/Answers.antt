@@ -16,10 +16,10 @@ loop-pair-init c = left_from (pairs c.self.inside.clients) (elements_of c.self.i
 pub returns-then-number_of : goal.returns-then-number_of
 returns-then-number_of c = rw (← c.self.view_is)
     (owns (values_of c.self.inside.values) (pairs c.self.inside.clients) (elements_of c.self.inside.leases) (places_of c.self.inside.leases) (number_of c.args.address) c.in-Some.pair.0.now
-      c.self.invariant.holders
-      (left_found (pairs c.self.inside.clients) (elements_of c.self.inside.leases) (number_of c.args.address) c.loop-pair.pair-iterator
-        (c.in-Some.pair.0.now, c.in-Some.pair.1.now) c.next.new.self c.in-Some-get.lease.now c.in-Some.ensures.steps c.in-Some-get.ensures.value c.loop-pair.invariant
-        (sym c.number_of.ensures ∙ c.if-number_of.true ∙ c.number_of-in-Some-get.ensures)))
+    c.self.invariant.holders
+    (left_found (pairs c.self.inside.clients) (elements_of c.self.inside.leases) (number_of c.args.address) c.loop-pair.pair-iterator
+    (c.in-Some.pair.0.now, c.in-Some.pair.1.now) c.next.new.self c.in-Some-get.lease.now c.in-Some.ensures.steps c.in-Some-get.ensures.value c.loop-pair.invariant
+    (sym c.number_of.ensures ∙ c.if-number_of.true ∙ c.number_of-in-Some-get.ensures)))
 
 pub loop-pair-preserved-else-number_of : goal.loop-pair-preserved-else-number_of
 loop-pair-preserved-else-number_of c = left_next (pairs c.self.inside.clients) (elements_of c.self.inside.leases) (number_of c.args.address) c.loop-pair.pair-iterator
