@@ -1,13 +1,12 @@
 -- What a call promises, from what its parts do.
-use Rattle.std.proofs.Common.{◌≡◌, ℕ, ◌≤◌, Bool, true, false, cond, Option, Some, None, refl, sym, ap, ◌∙◌, subst, arith}
+use Rattle.std.proofs.Common.{◌≡◌, ℕ, ◌≤◌, Bool, cond, None, ap, ◌∙◌, arith}
 use Rattle.net_wire.specs.declared.address.EthernetAddress.{EthernetAddress}
-use Rattle.net_wire.specs.declared.address.Ipv4Address.{Ipv4Address}
 use Rattle.net_wire.specs.DhcpMessage.{Message}
 use Rattle.lease_server.specs.declared.reply.Reply.{Reply}
 use Rattle.lease_server.specs.Values.{refused}
-use Rattle.lease_server.specs.Holdings.{same_hardware, held_after, held_after_reply}
+use Rattle.lease_server.specs.Holdings.{same_hardware, held_after_reply}
 use Rattle.lease_server.specs.Replies.{reply_to}
-use Rattle.lease_server.specs.State.{Answers, Holders, ServerState, call_of, given, holding, is_taken}
+use Rattle.lease_server.specs.State.{Answers, Holders, ServerState, holding, is_taken}
 use Rattle.lease_server.proofs.GiveLemmas.{held_at_once}
 use Rattle.lease_server.proofs.TestLemmas.{itself}
 

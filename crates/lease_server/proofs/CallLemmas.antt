@@ -1,5 +1,5 @@
 -- A server is as the list of calls says.
-use Rattle.std.proofs.Common.{◌≡◌, ◌⊎◌, ℕ, zero, suc, ◌+◌, ◌≤◌, Bool, true, false, cond, ◌||◌, List, [], ◌∷◌, Option, Some, None, refl, sym, ap, ◌∙◌, subst, arith}
+use Rattle.std.proofs.Common.{◌≡◌, ℕ, zero, suc, ◌+◌, ◌≤◌, Bool, true, false, cond, ◌||◌, List, [], ◌∷◌, Option, Some, refl, sym, ap, ◌∙◌, arith}
 use Rattle.std.specs.List.{list_any}
 use Rattle.managed.proofs.OrderLemmas.{by_test}
 use Rattle.net_wire.specs.declared.address.EthernetAddress.{EthernetAddress}
@@ -8,8 +8,8 @@ use Rattle.net_wire.specs.DhcpMessage.{Message}
 use Rattle.lease_server.specs.declared.reply.Reply.{Reply}
 use Rattle.lease_server.specs.Values.{Values, address_of, first_number}
 use Rattle.lease_server.specs.Holdings.{Call, held_after, held_after_reply, held_by, holds_number, same_hardware}
-use Rattle.lease_server.specs.Replies.{first_free, lowest_free, reply_by, reply_to}
-use Rattle.lease_server.specs.State.{Answers, Holders, ServerState, call_of, holding, is_taken, new_server}
+use Rattle.lease_server.specs.Replies.{first_free, reply_by, reply_to}
+use Rattle.lease_server.specs.State.{Answers, ServerState, call_of, holding, is_taken}
 use Rattle.lease_server.specs.Calls.{Agrees, IsAsCalled, call_for, is_taken_by}
 use Rattle.lease_server.proofs.GiveLemmas.{taken_by, or_right}
 use Rattle.lease_server.proofs.LawLemmas.{any_gives}

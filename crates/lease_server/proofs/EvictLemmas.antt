@@ -1,9 +1,8 @@
 -- A client is taken out.
-use Rattle.std.proofs.Common.{◌≡◌, ◌⊎◌, ℕ, zero, suc, ◌+◌, ◌-◌, ◌<◌, ◌≤◌, Bool, true, false, cond, List, [], ◌∷◌, length, get_or, set, Option, Some, None, IsSome, refl, sym, ap, ◌∙◌, subst, arith, length-set, rules}
+use Rattle.std.proofs.Common.{◌≡◌, ℕ, ◌+◌, Bool, true, false, cond, List, [], ◌∷◌, length, Option, Some, None, IsSome, refl, sym, ap, ◌∙◌, subst, arith, length-set, rules}
 use Rattle.std.specs.Map.{remove_entry, keys_of, lookup}
 use Rattle.std.specs.Option.{option_map}
 use Rattle.std.specs.BTreeMap.{is_at}
-use Rattle.std.specs.Ordering.{is_eq}
 use Rattle.std.specs.List.Sorted.{IsStrictlySortedBy}
 use Rattle.std.proofs.lemmas.Cmp.{eq_by_cmp_equiv}
 use Rattle.std.proofs.lemmas.Map.{lookup-remove_entry}
@@ -17,7 +16,7 @@ use Rattle.net_wire.specs.declared.address.EthernetAddress.{EthernetAddress}
 use Rattle.lease_server.specs.declared.lease.Lease.{Lease}
 use Rattle.lease_server.specs.Values.{Values}
 use Rattle.lease_server.specs.Holdings.{same_hardware}
-use Rattle.lease_server.specs.State.{Held, Holders, hardware_cmp}
+use Rattle.lease_server.specs.State.{Held, hardware_cmp}
 use Rattle.lease_server.specs.Holders.{AreHolders, Keys, lease_at, held_under, holders_in}
 use Rattle.lease_server.proofs.HolderLemmas.{hardware_order, found_under}
 use Rattle.lease_server.proofs.TestLemmas.{keys_tie, same_client, none_some, itself, true_false}

@@ -1,10 +1,10 @@
 -- Who may be given what.
-use Rattle.std.proofs.Common.{◌≡◌, ◌⊎◌, ◌≢◌, ℕ, zero, suc, ◌+◌, ◌-◌, ◌*◌, ◌^◌, ◌<◌, ◌≤◌, Bool, true, false, cond, ◌||◌, List, [], ◌∷◌, length, Option, Some, None, refl, sym, ap, ◌∙◌, subst, inl, inr, ⊎_elim, arith, nat_eq, nat_lt, lit<}
+use Rattle.std.proofs.Common.{◌≡◌, ◌⊎◌, ℕ, zero, suc, ◌+◌, ◌*◌, ◌<◌, ◌≤◌, Bool, true, false, cond, ◌||◌, List, [], ◌∷◌, Option, Some, None, refl, sym, ap, ◌∙◌, inl, inr, ⊎_elim, arith, nat_eq, nat_lt, lit<}
 use Rattle.std.specs.Option.{option_map}
 use Rattle.std.specs.List.{list_any}
 use Rattle.std.specs.Ordering.{is_eq}
 use Rattle.std.proofs.lemmas.Nat.{from_be_bytes-to_be_bytes_4}
-use Rattle.std.proofs.lemmas.Bool.{eqb-true, eqb-false, eq-eqb, ltb-true, lt-ltb, le-ltb, ltb-false}
+use Rattle.std.proofs.lemmas.Bool.{eqb-true, eqb-false, eq-eqb, lt-ltb, le-ltb, ltb-false}
 use Rattle.managed.specs.declared.slot_key.SlotKey.{SlotKey}
 use Rattle.managed.specs.SlotTable.{SlotUse}
 use Rattle.managed.specs.SortedMap.{value_at}
@@ -20,11 +20,11 @@ use Rattle.lease_server.specs.declared.reply.Reply.TheVariants as reply
 use Rattle.lease_server.specs.declared.reply.Silence.TheVariants as silence
 use Rattle.lease_server.specs.Values.{Values, number_of, address_of, first_number, refused}
 use Rattle.lease_server.specs.Holdings.{same_hardware, holds_number, holds_it, held_up_to, held_after_reply}
-use Rattle.lease_server.specs.Replies.{is_of_range, first_free, lowest_free, discover_reply, selected_reply, renewal_reply, renewed, request_reply, release_reply, reply_by, reply_to}
-use Rattle.lease_server.specs.State.{Held, Holders, ServerState, IsFair, held_of, held_at, hardware_cmp, holding, is_taken, given}
+use Rattle.lease_server.specs.Replies.{is_of_range, first_free, lowest_free, discover_reply, selected_reply, renewal_reply, renewed, request_reply, reply_by, reply_to}
+use Rattle.lease_server.specs.State.{Held, Holders, IsFair, held_at, hardware_cmp, holding, is_taken, given}
 use Rattle.lease_server.specs.Holders.{AreHolders, CanHold, IsOwner, Keys, lease_at, held_under, holders_in, stores, has_number}
 use Rattle.lease_server.proofs.HolderLemmas.{found_under}
-use Rattle.lease_server.proofs.TestLemmas.{InRange, in_range, of_range, count_parts, true_false, none_some, keys_tie, same_client, itself, accepted}
+use Rattle.lease_server.proofs.TestLemmas.{in_range, of_range, count_parts, true_false, none_some, keys_tie, same_client, itself, accepted}
 
 -- ---- who has a number has it under a key
 stored_by : {P : Type 0} (leases : List Lease) (found : Option SlotKey) (number : ℕ)

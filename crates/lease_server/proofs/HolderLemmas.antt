@@ -1,14 +1,13 @@
 -- What lies at the place of a client, and what is held.
-use Rattle.std.proofs.Common.{◌≡◌, ℕ, zero, suc, ◌+◌, ◌-◌, ◌<◌, ◌≤◌, Bool, true, false, cond, ◌||◌, List, [], ◌∷◌, length, map, get_or, set, Option, Some, None, IsSome, IfSome, slice_get, refl, sym, ap, ◌∙◌, subst, arith, Bor, nat_lt, nat_eq, ◌↔◌}
+use Rattle.std.proofs.Common.{◌≡◌, ℕ, ◌≤◌, true, List, [], ◌∷◌, length, Option, Some, None, IsSome, IfSome, slice_get, refl, sym, ap, ◌∙◌, subst, arith, Bor, ◌↔◌}
 use Rattle.std.specs.Option.{option_map, option_copied}
-use Rattle.std.specs.List.{list_any, AllByRecursion}
+use Rattle.std.specs.List.{AllByRecursion}
 use Rattle.std.specs.List.Sorted.{IsStrictlySortedBy}
 use Rattle.std.specs.Cmp.{IsTotalOrder}
-use Rattle.std.specs.Cmp.Lexicographic.{texts_ties}
 use Rattle.std.specs.BTreeMap.{is_at}
 use Rattle.std.specs.Map.{keys_of}
-use Rattle.std.specs.Ordering.{is_eq, ordering_reverse}
-use Rattle.std.specs.declared.cmp.Ordering.TheVariants.{Less, Equal, Greater}
+use Rattle.std.specs.Ordering.{is_eq}
+use Rattle.std.specs.declared.cmp.Ordering.TheVariants.{Less}
 use Rattle.std.proofs.lemmas.Cmp.{on_total, nat_list_cmp_total, eq_by_cmp_equiv}
 use Rattle.std.proofs.lemmas.Option.{get_or_from_slice_get}
 use Rattle.std.proofs.lemmas.Map.Made.{lookup-map_values}
@@ -20,10 +19,10 @@ use Rattle.managed.specs.SlotTable.{SlotUse, unused, IsLiveKey}
 use Rattle.managed.specs.SlotMap.{elements_of, places_of, IsWhole}
 use Rattle.lease_server.specs.Inside.{IsServing}
 use Rattle.lease_server.specs.declared.server.Server.TheInside.{Inside}
-use Rattle.managed.proofs.OrderLemmas.{by_ordering, by_test, flip_less}
+use Rattle.managed.proofs.OrderLemmas.{flip_less}
 use Rattle.net_wire.specs.declared.address.EthernetAddress.{EthernetAddress}
 use Rattle.lease_server.specs.declared.lease.Lease.{Lease}
-use Rattle.lease_server.specs.State.{Held, Holders, held_of, held_at, hardware_cmp, holding, is_taken, ServerState, new_server}
+use Rattle.lease_server.specs.State.{Holders, hardware_cmp, ServerState, new_server}
 use Rattle.lease_server.specs.Values.{Values}
 use Rattle.lease_server.proofs.TestLemmas.{none_some}
 use Rattle.lease_server.specs.Holders.{AreHolders, Keys, lease_at, held_under, holders_in, no_lease}

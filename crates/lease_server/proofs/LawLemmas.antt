@@ -1,10 +1,9 @@
 -- The lowest free address, and a full range.
-use Rattle.std.proofs.Common.{◌≡◌, ◌↔◌, ◌⊎◌, ℕ, zero, suc, ◌+◌, ◌-◌, ◌<◌, ◌≤◌, Bool, true, false, cond, ◌||◌, List, [], ◌∷◌, Option, Some, None, refl, sym, ap, ◌∙◌, subst, arith, nat_eq}
+use Rattle.std.proofs.Common.{◌≡◌, ℕ, zero, suc, ◌+◌, ◌<◌, ◌≤◌, Bool, true, false, cond, ◌||◌, List, [], ◌∷◌, Option, Some, None, refl, sym, ap, ◌∙◌, arith, nat_eq}
 use Rattle.std.specs.List.{list_any}
 use Rattle.std.proofs.lemmas.Nat.{from_be_bytes-to_be_bytes_4}
 use Rattle.std.proofs.lemmas.Bool.{eqb-true, eqb-false}
 use Rattle.managed.proofs.OrderLemmas.{by_test}
-use Rattle.net_wire.specs.declared.address.EthernetAddress.{EthernetAddress}
 use Rattle.net_wire.specs.declared.address.Ipv4Address.{Ipv4Address}
 use Rattle.net_wire.specs.declared.dhcp.DhcpMessageType.{DhcpMessageType}
 use Rattle.net_wire.specs.declared.dhcp.DhcpMessageType.TheVariants as kind
@@ -13,11 +12,11 @@ use Rattle.lease_server.specs.declared.reply.Reply.{Reply}
 use Rattle.lease_server.specs.declared.reply.Reply.TheVariants as reply
 use Rattle.lease_server.specs.declared.reply.Silence.{Silence}
 use Rattle.lease_server.specs.declared.reply.Silence.TheVariants as silence
-use Rattle.lease_server.specs.Values.{Values, number_of, address_of, first_number, refused}
+use Rattle.lease_server.specs.Values.{Values, number_of, address_of, first_number}
 use Rattle.lease_server.specs.Holdings.{holds_number, holds_it}
-use Rattle.lease_server.specs.Replies.{is_of_range, first_free, lowest_free, discover_reply, selected_reply, renewal_reply, renewed, request_reply, release_reply, reply_by, reply_to}
-use Rattle.lease_server.specs.State.{Held, Holders, holding, is_taken}
-use Rattle.lease_server.specs.Laws.{IsLowest, FreeIsLowest, AreAllTaken, FullIsExact, TakenIsHeld}
+use Rattle.lease_server.specs.Replies.{is_of_range, first_free, lowest_free, discover_reply, selected_reply, renewal_reply, renewed, request_reply, release_reply, reply_by}
+use Rattle.lease_server.specs.State.{holding}
+use Rattle.lease_server.specs.Laws.{FreeIsLowest, AreAllTaken, FullIsExact, TakenIsHeld}
 use Rattle.lease_server.proofs.GiveLemmas.{is_free, taken_by, same_address}
 use Rattle.lease_server.proofs.TestLemmas.{of_range, count_parts, true_false, none_some}
 

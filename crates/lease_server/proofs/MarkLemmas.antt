@@ -1,5 +1,5 @@
 -- One walk over the clients marks what is held.
-use Rattle.std.proofs.Common.{◌≡◌, ◌≢◌, ℕ, zero, suc, ◌+◌, ◌-◌, ◌<◌, ◌≤◌, Bool, true, false, cond, ◌||◌, List, [], ◌∷◌, length, map, get_or, set, Option, Some, None, refl, sym, ap, ◌∙◌, subst, arith, nat_lt, nat_eq, get_or-set_other, get_or-set_same, replicate, slice_get}
+use Rattle.std.proofs.Common.{◌≡◌, ◌≢◌, ℕ, zero, suc, ◌+◌, ◌-◌, ◌<◌, ◌≤◌, Bool, true, false, cond, ◌||◌, List, [], ◌∷◌, length, map, get_or, Option, Some, None, refl, sym, ap, ◌∙◌, subst, arith, nat_lt, nat_eq, get_or-set_other, get_or-set_same, replicate, slice_get}
 use Rattle.std.specs.Option.{option_map}
 use Rattle.std.specs.Ordering.{is_eq}
 use Rattle.std.specs.Map.{keys_of}
@@ -19,7 +19,7 @@ use Rattle.lease_server.specs.Holdings.{holds_number}
 use Rattle.lease_server.specs.State.{Held, Holders, held_of, held_at, hardware_cmp, holding, is_taken, micros_of}
 use Rattle.lease_server.specs.Holders.{AreHolders, Keys, lease_at, held_under, holders_in, marked, no_lease, stores, has_number}
 use Rattle.lease_server.proofs.HolderLemmas.{finds_some, found_under, own_pairs}
-use Rattle.lease_server.proofs.TestLemmas.{InRange, in_range, or_true, HasCount, count_parts, true_false}
+use Rattle.lease_server.proofs.TestLemmas.{InRange, in_range, or_true, count_parts, true_false}
 
 any_map : {X Y : Type 0} (test : Y → Bool) (f : X → Y) (xs : List X) → list_any test (map f xs) ≡ list_any (λ x. test (f x)) xs
 any_map test f [] = refl

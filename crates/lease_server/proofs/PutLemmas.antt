@@ -1,38 +1,28 @@
 -- A client is given a place, or another lease in its own.
-use Rattle.std.proofs.Common.{◌≡◌, ◌⊎◌, ◌≢◌, ◌↔◌, ℕ, zero, suc, ◌+◌, ◌-◌, ◌<◌, ◌≤◌, Bool, true, false, cond, List, [], ◌∷◌, ◌++◌, length, map, get_or, set, Option, Some, None, IsSome, refl, sym, ap, ◌∙◌, subst, arith, length-set, length-append, get_or-set_other, get_or-set_same, nat_eq}
+use Rattle.std.proofs.Common.{◌≡◌, ◌≢◌, ℕ, zero, suc, ◌+◌, ◌<◌, ◌≤◌, Bool, true, false, cond, List, [], ◌∷◌, length, get_or, set, Option, Some, None, refl, sym, ap, ◌∙◌, subst, arith, length-set, get_or-set_other, get_or-set_same}
 use Rattle.std.specs.Option.{option_map}
-use Rattle.std.specs.List.{list_any, AllByRecursion, IsDistinct}
-use Rattle.std.specs.List.Sorted.{IsStrictlySortedBy}
-use Rattle.std.specs.Map.{keys_of}
-use Rattle.std.specs.Ordering.{is_eq}
 use Rattle.std.specs.Result.{IfErr, OnOk}
 use Rattle.std.specs.declared.result.Result.{Result}
-use Rattle.std.specs.declared.cmp.Ordering.TheVariants.{Less, Equal, Greater}
-use Rattle.std.proofs.lemmas.Bool.{eqb-true, eqb-false, eq-eqb, ne_eqb}
-use Rattle.std.proofs.lemmas.Map.Steps.{length-le_from_distinct_below}
-use Rattle.std.proofs.lemmas.Map.Keys.{IsDistinct-cons}
+use Rattle.std.proofs.lemmas.Bool.{eq-eqb}
 use Rattle.managed.specs.declared.slot_key.SlotKey.{SlotKey}
 use Rattle.managed.specs.declared.map.ManagedMap.{ManagedMap}
 use Rattle.managed.specs.declared.map.ManagedMap.TheVariants.{Borrowed, Owned}
-use Rattle.managed.specs.SlotTable.{SlotUse, AreFree, IsSoundUse, IsFullTable, generation_at, handed_out, key_handed_out, place_handed_out, taken_generations, still_free}
+use Rattle.managed.specs.SlotTable.{SlotUse, IsSoundUse, generation_at}
 use Rattle.managed.specs.SortedMap.{value_at, with_pair, inserted, pairs, capacity, IsRefusal}
 use Rattle.managed.specs.declared.error.InsertError.{InsertError}
 use Rattle.managed.specs.declared.error.InsertError.TheVariants.{Full, NoMemory}
 use Rattle.std.specs.declared.result.Result.TheVariants.{Ok, Err}
-use Rattle.managed.proofs.LawLemmas.{value-with_pair}
-use Rattle.managed.proofs.LiveLemmas.{sound_handed, found_handed, not_handed, kept}
-use Rattle.managed.proofs.OrderLemmas.{by_test, by_ordering}
+use Rattle.managed.proofs.OrderLemmas.{by_test}
 use Rattle.net_wire.specs.declared.address.EthernetAddress.{EthernetAddress}
-use Rattle.net_wire.specs.declared.address.Ipv4Address.{Ipv4Address}
 use Rattle.lease_server.specs.declared.lease.Lease.{Lease}
-use Rattle.lease_server.specs.Values.{Values, number_of, first_number}
+use Rattle.lease_server.specs.Values.{Values, number_of}
 use Rattle.lease_server.specs.Holdings.{same_hardware}
 use Rattle.lease_server.specs.Replies.{is_of_range}
-use Rattle.lease_server.specs.State.{Held, Holders, hardware_cmp, held_of}
+use Rattle.lease_server.specs.State.{Held, hardware_cmp, held_of}
 use Rattle.lease_server.specs.Holders.{AreHolders, Keys, lease_at, held_under, holders_in, no_lease, stores, has_number}
 use Rattle.lease_server.proofs.EvictLemmas.{apart_places}
-use Rattle.lease_server.proofs.HolderLemmas.{hardware_order, found_under, finds_some, own_pairs}
-use Rattle.lease_server.proofs.TestLemmas.{InRange, in_range, keys_tie, same_client, none_some, itself, true_false}
+use Rattle.lease_server.proofs.HolderLemmas.{found_under, finds_some}
+use Rattle.lease_server.proofs.TestLemmas.{same_client, none_some}
 
 -- What is known where a client is given a lease under a key: the keys and the places afterwards, and that no
 -- other client has that place or that address.

@@ -1,5 +1,5 @@
 -- Walks along the range and along the name servers.
-use Rattle.std.proofs.Common.{◌≡◌, ℕ, zero, suc, ◌+◌, ◌-◌, ◌<◌, ◌≤◌, ◌&&◌, Bool, true, false, cond, List, [], ◌∷◌, drop, length, get_or, Option, Some, None, refl, sym, ap, ◌∙◌, arith, drop-cons, add-one}
+use Rattle.std.proofs.Common.{◌≡◌, ℕ, suc, ◌+◌, ◌-◌, ◌<◌, ◌≤◌, ◌&&◌, Bool, true, false, cond, List, drop, length, get_or, Some, None, refl, sym, ap, ◌∙◌, arith, drop-cons, add-one}
 use Rattle.net_wire.specs.declared.address.Ipv4Address.{Ipv4Address}
 use Rattle.net_wire.specs.Unicast.{is_unicast}
 use Rattle.lease_server.specs.Values.{Values, address_of, is_usable, are_usable, are_unicast}

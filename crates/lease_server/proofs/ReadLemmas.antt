@@ -1,5 +1,5 @@
 -- The message of a reply is read again.
-use Rattle.std.proofs.Common.{◌≡◌, ℕ, ◌<◌, ◌≤◌, ◌^◌, ◌-◌, Bool, true, List, [], ◌∷◌, length, Option, Some, None, IfSome, refl, sym, ap, ◌∙◌, subst, arith, lit<, lit≤}
+use Rattle.std.proofs.Common.{◌≡◌, ℕ, ◌≤◌, ◌^◌, ◌-◌, true, List, [], ◌∷◌, length, Some, None, IfSome, refl, subst, arith, lit<}
 use Rattle.std.specs.List.{AllByRecursion}
 use Rattle.net_wire.specs.declared.address.Ipv4Address.{Ipv4Address}
 use Rattle.net_wire.specs.declared.dhcp.DhcpMessageType.{DhcpMessageType}
@@ -10,10 +10,9 @@ use Rattle.net_wire.specs.DhcpRead.{message_at, type_of_number}
 use Rattle.net_wire.specs.DhcpReadBack.{AreNameServers, HasFour, IsReadable}
 use Rattle.net_wire.specs.Unicast.{is_unicast}
 use Rattle.net_wire.proofs.DhcpReadBackLemmas.{reads_written}
-use Rattle.lease_server.specs.declared.reply.Reply.{Reply}
 use Rattle.lease_server.specs.declared.reply.Reply.TheVariants as reply
 use Rattle.lease_server.specs.Values.{Values, address_of, refused, are_unicast}
-use Rattle.lease_server.specs.Messages.{AreWide, IsWideReply, IsWideRequest, ReadsReplies, granting, listed, mask_of, refusing, reply_message}
+use Rattle.lease_server.specs.Messages.{AreWide, IsWideRequest, ReadsReplies, granting, listed, refusing}
 use Rattle.lease_server.proofs.TestLemmas.{accepted, and_first, and_second, none_some}
 
 four_of : (number : ℕ) → HasFour (address_of number)

@@ -1,16 +1,14 @@
 -- A client without a place finds one where an address is had by nobody.
-use Rattle.std.proofs.Common.{◌≡◌, ◌⊎◌, ◌≢◌, ◌↔◌, ℕ, zero, suc, ◌+◌, ◌-◌, ◌<◌, ◌≤◌, Bool, true, false, cond, List, [], ◌∷◌, ◌++◌, length, map, get_or, set, Option, Some, None, IsSome, refl, sym, ap, ◌∙◌, subst, arith, length-set, length-append, nat_eq, ◌||◌}
-use Rattle.std.specs.Option.{option_map}
+use Rattle.std.proofs.Common.{◌≡◌, ℕ, suc, ◌+◌, ◌-◌, ◌<◌, ◌≤◌, Bool, true, false, cond, List, [], ◌∷◌, length, map, get_or, Option, Some, None, IsSome, refl, sym, ap, ◌∙◌, arith, length-set, length-append, nat_eq, ◌||◌}
 use Rattle.std.specs.List.{list_any, AllByRecursion, IsDistinct}
 use Rattle.std.specs.List.Sorted.{IsStrictlySortedBy}
 use Rattle.std.specs.Map.{keys_of}
 use Rattle.std.specs.Ordering.{is_eq}
-use Rattle.std.specs.declared.cmp.Ordering.TheVariants.{Less, Equal, Greater}
-use Rattle.std.proofs.lemmas.Bool.{eqb-true, eqb-false, eq-eqb, ne_eqb}
+use Rattle.std.specs.declared.cmp.Ordering.TheVariants.{Less}
+use Rattle.std.proofs.lemmas.Bool.{eqb-true, ne_eqb}
 use Rattle.std.proofs.lemmas.Map.Steps.{length-le_from_distinct_below}
-use Rattle.std.proofs.lemmas.Map.Keys.{IsDistinct-cons}
 use Rattle.managed.specs.declared.slot_key.SlotKey.{SlotKey}
-use Rattle.managed.specs.SlotTable.{SlotUse, AreFree, IsSoundUse, IsFullTable, generation_at, handed_out, key_handed_out, place_handed_out, taken_generations, still_free}
+use Rattle.managed.specs.SlotTable.{SlotUse, AreFree, IsFullTable, handed_out, key_handed_out, place_handed_out, taken_generations, still_free}
 use Rattle.managed.specs.SortedMap.{value_at, with_pair}
 use Rattle.managed.proofs.LawLemmas.{value-with_pair}
 use Rattle.managed.proofs.LiveLemmas.{sound_handed, found_handed, not_handed, kept}
@@ -20,12 +18,11 @@ use Rattle.lease_server.specs.declared.lease.Lease.{Lease}
 use Rattle.lease_server.specs.Values.{Values, number_of, first_number}
 use Rattle.lease_server.specs.Holdings.{same_hardware}
 use Rattle.lease_server.specs.Replies.{is_of_range}
-use Rattle.lease_server.specs.State.{Held, Holders, hardware_cmp, held_of}
-use Rattle.lease_server.specs.Holders.{AreHolders, Keys, lease_at, held_under, holders_in, stores, has_number}
-use Rattle.lease_server.proofs.EvictLemmas.{some_is}
-use Rattle.lease_server.proofs.HolderLemmas.{hardware_order, found_under, finds_some, own_pairs}
+use Rattle.lease_server.specs.State.{hardware_cmp}
+use Rattle.lease_server.specs.Holders.{AreHolders, Keys, lease_at, holders_in, stores}
+use Rattle.lease_server.proofs.HolderLemmas.{hardware_order, own_pairs}
 use Rattle.lease_server.proofs.PutLemmas.{Puts, stored}
-use Rattle.lease_server.proofs.TestLemmas.{InRange, in_range, keys_tie, same_client, none_some, itself, true_false}
+use Rattle.lease_server.proofs.TestLemmas.{InRange, in_range, keys_tie, none_some, itself, true_false}
 
 -- ---- no more clients than addresses
 -- the place of a client's address in the range

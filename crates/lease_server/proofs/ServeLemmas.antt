@@ -1,5 +1,5 @@
 -- The fields of a server through the calls that change them.
-use Rattle.std.proofs.Common.{◌≡◌, ◌↔◌, ◌⊎◌, ℕ, ◌+◌, ◌<◌, ◌≤◌, Bool, true, false, cond, List, [], ◌∷◌, length, set, Option, Some, None, IsTrue, refl, sym, ap, ◌∙◌, subst, arith}
+use Rattle.std.proofs.Common.{◌≡◌, ◌↔◌, ◌<◌, Bool, true, cond, List, length, set, Option, Some, None, IsTrue, refl, sym, ap, ◌∙◌, subst, arith}
 use Rattle.std.specs.Option.{option_map}
 use Rattle.std.specs.Result.{IfErr, OnOk}
 use Rattle.std.specs.declared.result.Result.{Result}
@@ -12,19 +12,18 @@ use Rattle.managed.specs.SlotMap.{elements_of, places_of}
 use Rattle.managed.specs.SlotTable.{SlotUse, IsLiveKey, IsFullTable, key_handed_out, place_handed_out, handed_out}
 use Rattle.managed.specs.SortedMap.{value_at, with_pair, inserted, pairs, IsRefusal, IsSortedMap, KeepsStorage}
 use Rattle.net_wire.specs.declared.address.EthernetAddress.{EthernetAddress}
-use Rattle.net_wire.specs.declared.address.Ipv4Address.{Ipv4Address}
 use Rattle.lease_server.specs.declared.lease.Lease.{Lease}
 use Rattle.lease_server.specs.declared.server.Server.TheInside.{Inside}
 use Rattle.lease_server.specs.Inside.{IsServing, state_inside}
 use Rattle.lease_server.specs.Values.{values_of, number_of}
 use Rattle.lease_server.specs.Holdings.{same_hardware}
 use Rattle.lease_server.specs.Replies.{is_of_range}
-use Rattle.lease_server.specs.State.{Held, Holders, ServerState, hardware_cmp, held_of}
-use Rattle.lease_server.specs.Holders.{AreHolders, Keys, lease_at, held_under, holders_in, stores, has_number}
+use Rattle.lease_server.specs.State.{Held, ServerState, hardware_cmp, held_of}
+use Rattle.lease_server.specs.Holders.{Keys, held_under, holders_in, stores, has_number}
 use Rattle.lease_server.proofs.HolderLemmas.{sorted_keys, found_under}
 use Rattle.lease_server.proofs.PutLemmas.{Puts, prolongs, puts_in, put_in, place_below, takes_pair, inserts}
 use Rattle.lease_server.proofs.RoomLemmas.{admits, has_room, not_full}
-use Rattle.lease_server.proofs.TestLemmas.{in_range, none_some, true_false}
+use Rattle.lease_server.proofs.TestLemmas.{in_range, true_false}
 
 module _ (server : Inside) (serving : IsServing server) (state : ServerState) (view_is : state_inside server ≡ state) (lease : Lease)
     (within : is_of_range state.values lease.address ≡ true)

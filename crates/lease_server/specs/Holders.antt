@@ -1,5 +1,5 @@
 -- The places of a server: which client has which key, and what lies there.
-use Rattle.std.specs.Prelude.{◌≡◌, ℕ, ◌+◌, ◌-◌, ◌<◌, ◌≤◌, ◌==◌, ◌&&◌, Bool, true, false, nat_lt, ◌⊎◌, List, [], ◌∷◌, length, map, Option, Some, None, pos, slice_index_or, slice_set, if◌then◌else◌}
+use Rattle.std.specs.Prelude.{◌≡◌, ℕ, ◌+◌, ◌-◌, ◌≤◌, ◌==◌, ◌&&◌, Bool, true, false, nat_lt, ◌⊎◌, List, [], length, map, Option, Some, None, pos, slice_index_or, slice_set, if◌then◌else◌}
 use Rattle.managed.specs.declared.slot_key.SlotKey.{SlotKey}
 use Rattle.managed.specs.SlotTable.{SlotUse, IsSoundUse, generation_at}
 use Rattle.managed.specs.SortedMap.{value_at}
@@ -8,7 +8,7 @@ use Rattle.net_wire.specs.declared.address.Ipv4Address.{Ipv4Address}
 use Rattle.lease_server.specs.declared.lease.Lease.{Lease}
 use Rattle.lease_server.specs.Values.{Values, number_of}
 use Rattle.lease_server.specs.Replies.{is_of_range}
-use Rattle.lease_server.specs.State.{Held, Holders, held_of, held_at, hardware_cmp, holding, micros_of}
+use Rattle.lease_server.specs.State.{Held, Holders, held_of, hardware_cmp, holding, micros_of}
 
 abbrev pub Keys : Type 0
 Keys = List (EthernetAddress × SlotKey)

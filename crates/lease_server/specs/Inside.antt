@@ -1,8 +1,8 @@
 -- What the fields of a server stand for.
-use Rattle.std.specs.Prelude.{◌≡◌, ◌≤◌, length, Option, Some, None}
+use Rattle.std.specs.Prelude.{◌≡◌, Some, None}
 use Rattle.managed.specs.SortedMap.{pairs, capacity, IsSortedMap}
 use Rattle.managed.specs.SlotMap.{elements_of, places_of}
-use Rattle.lease_server.specs.Holders.{Keys, AreHolders, holders_in}
+use Rattle.lease_server.specs.Holders.{AreHolders, holders_in}
 use Rattle.lease_server.specs.State.{ServerState, hardware_cmp}
 use Rattle.lease_server.specs.Values.{values_of, refused}
 use Rattle.lease_server.specs.declared.server.Server.TheInside.{Inside}

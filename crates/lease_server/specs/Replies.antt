@@ -1,7 +1,6 @@
 -- The reply to a message of a client, by what is held when it comes (RFC 2131, sections 4.3.1, 4.3.2 and
 -- 4.3.4).
-use Rattle.std.specs.Prelude.{◌≡◌, ℕ, ◌+◌, ◌&&◌, ◌==◌, zero, suc, Bool, nat_le, nat_lt, Option, Some, None, if◌then◌else◌}
-use Rattle.net_wire.specs.declared.address.EthernetAddress.{EthernetAddress}
+use Rattle.std.specs.Prelude.{ℕ, ◌+◌, ◌&&◌, ◌==◌, zero, suc, Bool, nat_le, nat_lt, Option, Some, None, if◌then◌else◌}
 use Rattle.net_wire.specs.declared.address.Ipv4Address.{Ipv4Address}
 use Rattle.net_wire.specs.declared.dhcp.DhcpMessageType.{DhcpMessageType}
 use Rattle.net_wire.specs.declared.dhcp.DhcpMessageType.TheVariants.{Discover, Offer, Request, Decline}

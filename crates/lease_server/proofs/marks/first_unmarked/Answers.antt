@@ -1,5 +1,4 @@
-use Rattle.std.proofs.Common.{refl, sym, ◌∙◌, ◌+◌, arith, ◌<◌, ◌≤◌, ◌-◌, ◌≡◌, ap, Some}
-use Rattle.lease_server.specs.Replies.{first_free}
+use Rattle.std.proofs.Common.{sym, ◌∙◌, ◌+◌, arith, ◌<◌, ◌≤◌, ap, Some}
 use Rattle.lease_server.proofs.RangeLemmas.{free_here, free_later, none_left, whole_range}
 use Rattle.lease_server.proofs.marks.first_unmarked.Goals as goal
 

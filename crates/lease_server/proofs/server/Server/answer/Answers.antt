@@ -1,4 +1,4 @@
-use Rattle.std.proofs.Common.{◌≡◌, ℕ, sym, ap, ◌∙◌, Some, None, subst, refl}
+use Rattle.std.proofs.Common.{◌≡◌, ℕ, sym, ap, None, subst, refl}
 use Rattle.managed.specs.SortedMap.{pairs}
 use Rattle.managed.specs.SlotMap.{elements_of, places_of}
 use Rattle.net_wire.specs.DhcpMessage.{message_of}

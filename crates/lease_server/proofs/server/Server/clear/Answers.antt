@@ -1,4 +1,4 @@
-use Rattle.std.proofs.Common.{◌≡◌, sym, ap, ◌∙◌, Some, None, refl}
+use Rattle.std.proofs.Common.{sym, ◌∙◌, refl}
 use Rattle.lease_server.specs.Values.{number_of}
 use Rattle.lease_server.proofs.GiveLemmas.{nobody_left, others_kept, mine_kept}
 use Rattle.lease_server.proofs.TestLemmas.{same_client}

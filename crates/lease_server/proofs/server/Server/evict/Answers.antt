@@ -1,4 +1,4 @@
-use Rattle.std.proofs.Common.{◌≡◌, sym, ap, ◌∙◌, Some, None}
+use Rattle.std.proofs.Common.{sym, ◌∙◌}
 use Rattle.managed.specs.SortedMap.{pairs}
 use Rattle.managed.specs.SlotMap.{elements_of, places_of}
 use Rattle.lease_server.specs.Values.{values_of}

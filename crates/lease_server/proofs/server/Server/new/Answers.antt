@@ -1,10 +1,9 @@
-use Rattle.std.proofs.Common.{◌≡◌, ℕ, ◌≤◌, sym, ap, ◌∙◌, Some, None, arith, List, [], length, min}
+use Rattle.std.proofs.Common.{◌≡◌, ap, ◌∙◌, Some, arith, length, min}
 use Rattle.managed.specs.SortedMap.{filled}
 use Rattle.managed.specs.SlotMap.{elements_of, places_of}
 use Rattle.managed.specs.SlotTable.{unused}
 use Rattle.lease_server.specs.Values.{values_of}
-use Rattle.lease_server.specs.State.{new_server}
-use Rattle.lease_server.proofs.HolderLemmas.{vacant_pairs, vacant_packed, no_holders, begins, sorted_vacant}
+use Rattle.lease_server.proofs.HolderLemmas.{vacant_pairs, no_holders, begins, sorted_vacant}
 use Rattle.lease_server.proofs.server.Server.new.Goals as goal
 
 pub invariant_of-result : goal.invariant_of-result

@@ -1,10 +1,9 @@
-use Rattle.std.proofs.Common.{◌≡◌, sym, ap, ◌∙◌, Some, None, List}
+use Rattle.std.proofs.Common.{sym, ◌∙◌}
 use Rattle.managed.specs.SortedMap.{pairs}
 use Rattle.managed.specs.SlotMap.{elements_of, places_of}
 use Rattle.lease_server.specs.Values.{values_of, number_of}
-use Rattle.lease_server.specs.Holders.{Keys}
 use Rattle.lease_server.proofs.HolderLemmas.{sorted_keys}
-use Rattle.lease_server.proofs.MarkLemmas.{AreLeft, all_left, left_none, left_next, left_found, left_from}
+use Rattle.lease_server.proofs.MarkLemmas.{left_next, left_found, left_from}
 use Rattle.lease_server.proofs.GiveLemmas.{owns}
 use Rattle.lease_server.proofs.server.Server.owner.Goals as goal
 

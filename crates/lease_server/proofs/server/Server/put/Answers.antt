@@ -1,15 +1,4 @@
-use Rattle.std.proofs.Common.{◌≡◌, ◌<◌, ℕ, sym, ap, ◌∙◌, Some, None, subst, length, refl, true, arith, rules}
-use Rattle.managed.specs.SortedMap.{pairs, value_at}
-use Rattle.managed.specs.SlotMap.{elements_of, places_of}
-use Rattle.managed.specs.SlotTable.{key_handed_out, handed_out, IsFullTable}
-use Rattle.net_wire.specs.declared.address.EthernetAddress.{EthernetAddress}
-use Rattle.lease_server.specs.Inside.{IsServing, state_inside}
-use Rattle.lease_server.specs.declared.server.Server.TheInside.{Inside}
-use Rattle.lease_server.specs.declared.lease.Lease.{Lease}
-use Rattle.lease_server.specs.Replies.{is_of_range}
-use Rattle.lease_server.specs.State.{ServerState, hardware_cmp}
-use Rattle.lease_server.specs.Holders.{stores}
-use Rattle.lease_server.specs.Values.{values_of, number_of}
+use Rattle.std.proofs.Common.{sym, ◌∙◌, refl}
 use Rattle.lease_server.proofs.ServeLemmas.{prolongs_server, prolonged_server, admits_server, admitted_server, never_full}
 use Rattle.lease_server.proofs.server.Server.put.Goals as goal
 

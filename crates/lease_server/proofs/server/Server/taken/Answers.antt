@@ -1,4 +1,4 @@
-use Rattle.std.proofs.Common.{◌≡◌, ℕ, ◌≤◌, ◌<◌, ◌+◌, sym, ap, ◌∙◌, Some, None, arith, length, refl}
+use Rattle.std.proofs.Common.{◌≡◌, ◌∙◌, arith, length}
 use Rattle.managed.specs.SortedMap.{pairs}
 use Rattle.managed.specs.SlotMap.{elements_of, places_of}
 use Rattle.lease_server.specs.Values.{values_of}

@@ -1,4 +1,3 @@
-use Rattle.std.proofs.Common.{◌≡◌}
 use Rattle.managed.specs.SortedMap.{pairs}
 use Rattle.managed.specs.SlotMap.{elements_of}
 use Rattle.lease_server.specs.Holders.{holders_in}
