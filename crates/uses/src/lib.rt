@@ -16,5 +16,4 @@ pub mod queries;
 pub mod rules;
 pub mod runs;
 pub mod scripts;
-pub mod serving;
 pub mod sums;
