@@ -1,5 +1,5 @@
 //! Callers of `script_source` and `script_reader`.
-ghost use Rattle.std.specs.Prelude.{◌≡◌, ◌<◌, [], length, take, IfOk, IfNone, IfSome};
+ghost use Rattle.std.specs.Prelude.{◌≡◌, ℕ, ◌<◌, List, [], ◌++◌, length, IfOk, IfNone, IfSome};
 ghost use Rattle.script_reader.specs.ReaderState.{at_start};
 ghost use Rattle.uses.specs.Beginning.{BeginsAt};
 
@@ -9,7 +9,7 @@ use script_source::{SureSource, fill};
 
 /// The first two bytes of some bytes in memory, where there are two.
 pub fn first_two(bytes: Vec<u8>) -> Option<[u8; 2]>
-    ensures found { IfSome result (λ two. two ≡ take 2 bytes.items) }
+    ensures found { IfSome result (λ two. (rest : List ℕ) × (bytes.items ≡ two ++ rest)) }
     ensures short { IfNone result (length bytes.items < 2) }
 {
     let mut source = SureSource::new(bytes);

@@ -1,0 +1,13 @@
+pub mod RangeLemmas
+pub mod TestLemmas
+pub mod HolderLemmas
+pub mod MarkLemmas
+pub mod EvictLemmas
+pub mod PutLemmas
+pub mod RoomLemmas
+pub mod GiveLemmas
+pub mod ServeLemmas
+pub mod AnswerLemmas
+pub mod LawLemmas
+pub mod CallLemmas
+pub mod ReadLemmas

@@ -1,0 +1,10 @@
+pub mod Values
+pub mod Holdings
+pub mod Replies
+pub mod State
+pub mod Holders
+pub mod Inside
+pub mod Messages
+pub mod Calls
+pub mod Laws
+pub mod Examples
