@@ -29,11 +29,15 @@ done
     (
         b"\x01\x00\x00\x00\x02\x00\x00\x00\x00\x00\x00\x00\x03\x00\x00\x00\x07",
         2,
-        b"0 1.000002 frame 0/3 none stop=ethernet-2-header agree=1\ncapture error at 40\n",
+        b"0 1.000002 frame 0/3 none stop=ethernet agree=1\ncapture error at 40\n",
     ),
 ];
 
-fn explains(alloc: Global, max: &str, (entries, status, text): Explained) -> Result<bool, AllocError> {
+fn explains(
+    alloc: Global,
+    max: &str,
+    (entries, status, text): Explained,
+) -> Result<bool, AllocError> {
     let mut capture = Vec::from_slice(alloc, FILE_HEADER)?;
     capture.extend_from_slice(entries)?;
     let ran = run_words(alloc, &["explain"], &[max], capture.as_slice())?;
@@ -44,15 +48,17 @@ fn explains(alloc: Global, max: &str, (entries, status, text): Explained) -> Res
 #[test]
 fn captures_are_explained(rt: HostRuntime) -> Result<(), Fail> {
     for (number, row) in ROWS.iter().enumerate() {
-        assert!(rt; explains(rt.alloc(), "1", *row)?, "capture {number}");
+        assert!(rt; explains(rt.alloc(), "2", *row)?, "capture {number}");
     }
     let over: Explained = (
         b"\x01\x00\x00\x00\x02\x00\x00\x00\x00\x00\x00\x00\x00\x00\x00\x00\x01",
         3,
-        b"0 1.000002 frame 0/0 none stop=ethernet-2-header agree=1\nframe limit reached\n",
+        b"0 1.000002 frame 0/0 none stop=ethernet agree=1\nframe limit reached\n",
     );
     assert!(rt; explains(rt.alloc(), "000001", over)?);
     let short = run_words(rt.alloc(), &["explain", "100000"], &[], &FILE_HEADER[..23])?;
-    assert!(rt; short.status == 2 && short.printed.as_slice() == b"capture error at 0\n".as_slice());
+    assert!(rt;
+        short.status == 2 && short.printed.as_slice() == b"capture error at 0\n".as_slice()
+    );
     Ok(())
 }
