@@ -9,8 +9,8 @@ use Rattle.host_disturb.specs.declared.fault_values.FaultValues.{FaultValues}
 use Rattle.host_disturb.specs.Disturbed.{disturbed}
 
 -- the bytes are a script of at most 1000 events, and the rows are those of what is met in place of these
-pub record HasRowsOver (faults : FaultValues) (settings : Settings) (words script : List ℕ)
+pub record HasRowsOver (faults : FaultValues) (settings : Settings) (words bytes : List ℕ)
     (rows : List Row) : Type 0 where
   pub events : List Event
-  pub script : IsScript 1000 script events
+  pub script : IsScript 1000 bytes events
   pub answered : AreRows settings words (disturbed faults events) rows

@@ -17,7 +17,7 @@ abbrev pub event_without : Event → Event
 event_without event = record { at = event.at; arrival = arrival_without event.arrival }
 
 -- the bytes are a script of at most 1000 events, and the rows are those of a run in which no frame arrives
-pub record HasRowsWithout (settings : Settings) (words script : List ℕ) (rows : List Row) : Type 0 where
+pub record HasRowsWithout (settings : Settings) (words bytes : List ℕ) (rows : List Row) : Type 0 where
   pub events : List Event
-  pub script : IsScript 1000 script events
+  pub script : IsScript 1000 bytes events
   pub answered : AreRows settings words (map event_without events) rows

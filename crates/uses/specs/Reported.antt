@@ -7,7 +7,7 @@ use Rattle.net_host.specs.declared.report.Row.{Row}
 use Rattle.net_host.specs.Rows.{AreRows}
 
 -- the bytes are a script of at most 1000 events, and the rows are those of a run's events
-pub record HasRowsOf (settings : Settings) (words script : List ℕ) (rows : List Row) : Type 0 where
+pub record HasRowsOf (settings : Settings) (words bytes : List ℕ) (rows : List Row) : Type 0 where
   pub events : List Event
-  pub script : IsScript 1000 script events
+  pub script : IsScript 1000 bytes events
   pub answered : AreRows settings words events rows
