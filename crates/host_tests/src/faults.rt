@@ -9,7 +9,12 @@ use phy_layers::{MemorySink, SureSink};
 use std::alloc::{AllocError, Global};
 use std::test::Fail;
 
-const RUN: [&str; 4] = ["run", "020202020202", "1", "20"];
+/// A run, one whose rows are printed as they come, and one over a link that changes nothing: what they leave is the same.
+const RUNS: [&[&str]; 3] = [
+    &["run", "020202020202", "1", "20"],
+    &["live", "run", "020202020202", "1", "20"],
+    &["disturb", "020202020202", "1", "20", "7", "0", "0"],
+];
 
 /// A script, and what its run leaves without a failure.
 #[derive(Drop)]
@@ -21,12 +26,12 @@ struct Whole {
 }
 
 /// That of the first life with a query.
-fn run_whole(alloc: Global) -> Result<Whole, AllocError> {
+fn run_whole(alloc: Global, words: &[&str]) -> Result<Whole, AllocError> {
     let (_, rows, _, _) = LOOKUPS[0];
     let (script, text) = life_of(alloc, rows)?;
-    let ran = run_words(alloc, &RUN, &[], script.as_slice())?;
+    let ran = run_words(alloc, words, &[], script.as_slice())?;
     Ok(Whole {
-        args: strings_of(alloc, &RUN, &[])?,
+        args: strings_of(alloc, words, &[])?,
         script,
         text,
         captured: ran.captured,
@@ -80,25 +85,27 @@ fn output_fails(alloc: Global, whole: &Whole, fails: u64) -> Result<(u8, bool), 
 #[test]
 fn each_failure_has_its_status(rt: HostRuntime) -> Result<(), Fail> {
     let alloc = rt.alloc();
-    let whole = run_whole(alloc)?;
-    // Two reads for a tick or a reset, four for a frame or a query, and one at the end.
-    for read in 1..=33 {
-        assert!(rt; gives_4(alloc, &whole, read)?, "read {read}");
-    }
-    // Seven calls for the header, and six for each of thirteen records.
-    for call in 1..=85 {
-        assert!(rt; gives_5(alloc, &whole, call)?, "call {call}");
-    }
-    assert!(rt; !gives_4(alloc, &whole, 34)? && !gives_5(alloc, &whole, 86)?);
-    let mut failures = 0;
-    for call in 1..=1000 {
-        let (status, is_front) = output_fails(alloc, &whole, call)?;
-        assert!(rt; is_front && (status == 6 || status == 0), "output {call}");
-        if status == 0 {
-            break;
+    for words in RUNS.iter() {
+        let whole = run_whole(alloc, words)?;
+        // Two reads for a tick or a reset, four for a frame or a query, and one at the end.
+        for read in 1..=33 {
+            assert!(rt; gives_4(alloc, &whole, read)?, "read {read}");
         }
-        failures = call;
+        // Seven calls for the header, and six for each of thirteen records.
+        for call in 1..=85 {
+            assert!(rt; gives_5(alloc, &whole, call)?, "call {call}");
+        }
+        assert!(rt; !gives_4(alloc, &whole, 34)? && !gives_5(alloc, &whole, 86)?);
+        let mut failures = 0;
+        for call in 1..=1000 {
+            let (status, is_front) = output_fails(alloc, &whole, call)?;
+            assert!(rt; is_front && (status == 6 || status == 0), "output {call}");
+            if status == 0 {
+                break;
+            }
+            failures = call;
+        }
+        assert!(rt; failures > 100 && failures < 1000);
     }
-    assert!(rt; failures > 100 && failures < 1000);
     Ok(())
 }
