@@ -7,6 +7,7 @@ use Rattle.wire_base.specs.Bytes.{bytes_between, be16_at, be32_at}
 use Rattle.net_wire.specs.declared.address.EthernetAddress.{EthernetAddress}
 use Rattle.net_wire.specs.declared.arp.ArpRepr.{ArpRepr}
 use Rattle.net_wire.specs.Arp.{arp_at, arp_spaces, arriving_arp, has_arp, is_from_host}
+use Rattle.net_wire.specs.declared.arrival.Sources.TheVariants.{Unicast}
 use Rattle.net_wire.specs.Arrival.{arriving_datagram, body_of, datagram_with, has_packet_for, has_right_sum, has_udp, ip_header_len, is_for, is_packet, is_udp_packet, packet_datagram, total_len, udp_datagram}
 use Rattle.net_wire.specs.Datagram.{Datagram}
 use Rattle.net_wire.specs.DhcpBytes.{op_of}
@@ -82,14 +83,14 @@ source_four hardware frame =
     let source = address_at packet 12 in
     let destination = address_at packet 16 in
     let body = body_of packet in
-    cond_both (has_packet_for hardware frame) (packet_datagram packet) None HasFourSource
+    cond_both (has_packet_for hardware frame) (packet_datagram Unicast packet) None HasFourSource
     (λ for_it.
-    cond_both (is_packet packet && is_udp_packet packet) (udp_datagram source destination body) None
+    cond_both (is_packet packet && is_udp_packet Unicast packet) (udp_datagram source destination body) None
     HasFourSource
     (λ is. cond_both (has_udp body && has_right_sum source destination body)
     (Some (datagram_with source destination body)) None HasFourSource
     (λ right. four_at packet 12
-    (omega (arith, long_packet packet (and_parts (is_packet packet) (is_udp_packet packet) is).0)))
+    (omega (arith, long_packet packet (and_parts (is_packet packet) (is_udp_packet Unicast packet) is).0)))
     (λ wrong. tt))
     (λ none. tt))
     (λ other. tt)

@@ -6,6 +6,7 @@ use Rattle.std.proofs.lemmas.Bool.Decides.{nat_tests}
 use Rattle.std.proofs.lemmas.List.{take-take, length-take, length-take-le}
 use Rattle.wire_base.specs.Bytes.{bytes_between}
 use Rattle.ether_link.specs.Layout.{window_end}
+use Rattle.net_wire.specs.declared.arrival.Sources.TheVariants.{Unicast}
 use Rattle.net_wire.specs.Arrival.{ip_header_len, body_of, udp_len, sums_to_zero, is_packet, is_unfragmented, has_udp, has_right_sum, datagram_with, packet_datagram}
 use Rattle.net_wire.specs.DhcpRead.{address_at}
 use Rattle.net_wire.specs.Unicast.{is_unicast}
@@ -100,7 +101,7 @@ module _ (packet : List ℕ) (room : 20 ≤ ip_header_len packet) where
 
   -- a packet that is all there, no fragment and of UDP, with a whole datagram behind its header
   pub whole_carries : (body : List ℕ) (long : 8 ≤ length body) → body ≡ body_of packet → is_packet packet ≡ true → is_unfragmented packet ≡ true
-      → get_or packet 9 0 ≡ 17 → has_udp body ≡ true → packet_datagram packet ≡ right_datagram (record { header = front; udp = whole body long })
+      → get_or packet 9 0 ≡ 17 → has_udp body ≡ true → packet_datagram Unicast packet ≡ right_datagram (record { header = front; udp = whole body long })
   whole_carries body long is_body is_there unfragmented protocol has =
       let source = address_at packet 12 in
       let destination = address_at packet 16 in

@@ -18,6 +18,7 @@ use Rattle.ether_lax.specs.Noted.{datagram_in}
 use Rattle.ether_lax.specs.Sliced.{sliced_in}
 use Rattle.ether_lax.specs.Steps.{begins_with}
 use Rattle.ether_lax.specs.declared.sliced_packet.LaxSlicedPacket.{LaxSlicedPacket}
+use Rattle.net_wire.specs.declared.arrival.Sources.TheVariants.{Unicast}
 use Rattle.net_wire.specs.Arrival.{packet_datagram, arriving_datagram}
 use Rattle.net_wire.specs.Datagram.{Datagram}
 use Rattle.net_wire.specs.declared.address.EthernetAddress.{EthernetAddress}
@@ -75,8 +76,8 @@ module _ (hardware : EthernetAddress) (frame : List ℕ) (low : get_or frame 21 
       let seventh : get_or (slice_range frame 14 (length frame)) 7 0 ≡ get_or frame 21 0 = rw (rest_is frame 14) (get_or-drop 14 frame 7 0) in
       let layout : IsLayoutFrom packet_grammar frame (by_ether_type 0 0x0800) 14 (length frame) behind.more stop = rw number at behind.layout in
       let held = ip_carried frame behind.last behind.long (rw seventh low) behind.more stop layout in
-      let same : carried frame (parts_of frame places) ≡ packet_datagram (drop 14 frame)
-      = ap (carried frame) behind.parts ∙ held ∙ ap packet_datagram (rest_is frame 14) in
+      let same : carried frame (parts_of frame places) ≡ packet_datagram Unicast (drop 14 frame)
+      = ap (carried frame) behind.parts ∙ held ∙ ap (packet_datagram Unicast) (rest_is frame 14) in
       rw (le-leb 14 (length frame) behind.long, is, same) refl
 
   datagram_by_length : (places : List Place) (stop : Option (Stop SliceError)) → IsShort frame places ⊎ IsBehind frame places stop

@@ -15,6 +15,7 @@ use Rattle.ether_lax.specs.Found.{Parts, parts_behind}
 use Rattle.ether_lax.specs.Noted.{is_by_total_length}
 use Rattle.ether_lax.specs.Parts.{source_at}
 use Rattle.ether_lax.proofs.StepLemmas.{header_here, end_here, there_here, between}
+use Rattle.net_wire.specs.declared.arrival.Sources.TheVariants.{Unicast}
 use Rattle.net_wire.specs.Arrival.{ip_header_len, total_len, body_of, is_packet, is_unfragmented, has_udp, packet_datagram}
 use Rattle.net_wire.specs.Datagram.{Datagram}
 use Rattle.net_host.specs.Dissected.{right_datagram}
@@ -76,17 +77,17 @@ module _ (frame : List ℕ) (last : Option Place) (order : 14 ≤ length frame) 
     abbrev body : List ℕ
     body = slice_range frame four.body four.end
 
-    none_by_body : has_udp body ≡ false → packet_datagram packet ≡ None
+    none_by_body : has_udp body ≡ false → packet_datagram Unicast packet ≡ None
     none_by_body short = by_test (is_packet packet) refl
       where
-        by_test : (b : Bool) → is_packet packet ≡ b → packet_datagram packet ≡ None
+        by_test : (b : Bool) → is_packet packet ≡ b → packet_datagram Unicast packet ≡ None
         by_test false is = none_cut packet is
         by_test true is = none_short packet (rw (← body_is is) short)
 
     -- a datagram behind the header of a packet that is no fragment
     module _ (unfragmented : is_unfragmented packet ≡ true) (protocol : get_or packet 9 0 ≡ 17) where
       of_whole : (long : 8 ≤ length body) (a b : Bool) → is_packet packet ≡ a → has_udp body ≡ b
-          → option_and_then right_datagram (cond (a && b) (Some (record { header = front; udp = whole body long })) None) ≡ packet_datagram packet
+          → option_and_then right_datagram (cond (a && b) (Some (record { header = front; udp = whole body long })) None) ≡ packet_datagram Unicast packet
       of_whole long false b is has = sym (none_cut packet is)
       of_whole long true false is has = sym (none_by_body has)
       of_whole long true true is has = sym (whole_carries packet fits body long (body_is is) is unfragmented protocol has)
@@ -94,7 +95,7 @@ module _ (frame : List ℕ) (last : Option Place) (order : 14 ≤ length frame) 
       pub of_found : (places : List Place) → IsFound frame four front last four.body four.end
           (between frame kind.Ip 14 (length frame) order (omega arith) accepted).window
           (between frame kind.Ip 14 (length frame) order (omega arith) accepted).within places
-          → carried frame (behind places) ≡ packet_datagram packet
+          → carried frame (behind places) ≡ packet_datagram Unicast packet
       of_found places (inl short) = rw (short.1) (sym (none_by_body (short_body body short.0)))
       of_found places (inr long) =
           rw (long.1, source_is, whole_tells body long.0) (of_whole long.0 (is_packet packet) (has_udp body) refl refl)

@@ -19,6 +19,7 @@ use Rattle.ether_lax.specs.declared.step.Part.{Part}
 use Rattle.ether_lax.specs.declared.step.Part.TheVariants.{Ipv4, Ipv6}
 use Rattle.ether_lax.proofs.RankLemmas.{IsFrom, next_from}
 use Rattle.ether_lax.proofs.StepLemmas.{part_here, between}
+use Rattle.net_wire.specs.declared.arrival.Sources.TheVariants.{Unicast}
 use Rattle.net_wire.specs.Arrival.{is_unfragmented, packet_datagram}
 use Rattle.net_wire.specs.Datagram.{Datagram}
 use Rattle.net_host.specs.Dissected.{right_datagram}
@@ -72,7 +73,7 @@ module _ (frame : List ℕ) (last : Option Place) (order : 14 ≤ length frame) 
       Stands turn = IsLayoutFrom packet_grammar frame turn at.body at.end places stop
 
       of_udp : (b : Bool) → is_unfragmented bytes ≡ b → get_or bytes 9 0 ≡ 17
-          → Stands (cond (not b) None (Some (record { kind = kind.Udp; link_exts = 0; fragmented = false }))) → held places ≡ packet_datagram bytes
+          → Stands (cond (not b) None (Some (record { kind = kind.Udp; link_exts = 0; fragmented = false }))) → held places ≡ packet_datagram Unicast bytes
       of_udp false is protocol right = rw (none_named frame places at.body at.end stop right) (sym (none_fragment bytes is))
       of_udp true is protocol right =
           let lies = between frame kind.Ip 14 (length frame) order (omega arith) accepted in
@@ -80,7 +81,7 @@ module _ (frame : List ℕ) (last : Option Place) (order : 14 ≤ length frame) 
           (udp_found frame at four_bytes last at.body at.end lies.window lies.within places stop right)
 
       of_other : (b : Bool) → (get_or bytes 9 0 == 51) ≡ b → (get_or bytes 9 0 == 17) ≡ false
-          → Stands (part_turn 0 (not (is_unfragmented bytes)) (cond b (Some kind.Ipv4Auth) None) (get_or bytes 9 0)) → held places ≡ packet_datagram bytes
+          → Stands (part_turn 0 (not (is_unfragmented bytes)) (cond b (Some kind.Ipv4Auth) None) (get_or bytes 9 0)) → held places ≡ packet_datagram Unicast bytes
       of_other true is isnt right =
           let none = none_authenticated frame at four_bytes last (not (is_unfragmented bytes)) places at.body at.end stop right in
           rw none (sym (none_other bytes isnt))
@@ -91,13 +92,13 @@ module _ (frame : List ℕ) (last : Option Place) (order : 14 ≤ length frame) 
 
       of_number : (b : Bool) → (get_or bytes 9 0 == 17) ≡ b
           → Stands (part_turn 0 (not (is_unfragmented bytes)) (cond (get_or bytes 9 0 == 51) (Some kind.Ipv4Auth) None) (get_or bytes 9 0))
-          → held places ≡ packet_datagram bytes
+          → held places ≡ packet_datagram Unicast bytes
       of_number false is right = of_other (get_or bytes 9 0 == 51) refl is right
       of_number true is right =
           let protocol : get_or bytes 9 0 ≡ 17 = eqb-true (get_or bytes 9 0) 17 is in
           of_udp (is_unfragmented bytes) refl protocol (rw protocol at right)
 
-      behind_header : Stands next → held places ≡ packet_datagram bytes
+      behind_header : Stands next → held places ≡ packet_datagram Unicast bytes
       behind_header right = of_number (get_or bytes 9 0 == 17) refl (subst Stands four_next right)
 
   abbrev bare : Parts
@@ -107,7 +108,7 @@ module _ (frame : List ℕ) (last : Option Place) (order : 14 ≤ length frame) 
   module _ (accepted : refusal (packet_grammar.form_of kind.Ip) bytes ≡ None) (more : List Place) (stop : Option (Stop SliceError))
       (right : IsLayoutFrom packet_grammar frame next at.body at.end more stop) where
     abbrev Carries : Part → Type 0
-    Carries part = carried frame (parts_behind frame (with_part frame at part bare) more) ≡ packet_datagram bytes
+    Carries part = carried frame (parts_behind frame (with_part frame at part bare) more) ≡ packet_datagram Unicast bytes
 
     of_version : (b : Bool) → (get_or bytes 0 0 / 16 == 4) ≡ b → Carries (part_of kind.Ip bytes)
     of_version true is =
@@ -126,14 +127,14 @@ module _ (frame : List ℕ) (last : Option Place) (order : 14 ≤ length frame) 
         let of_six : P false = ap (option_and_then right_datagram) none ∙ sym (none_cut bytes (none_of_version bytes isnt)) in
         subst P (sym six) of_six
 
-    of_part : carried frame (parts_behind frame bare (at ∷ more)) ≡ packet_datagram bytes
+    of_part : carried frame (parts_behind frame bare (at ∷ more)) ≡ packet_datagram Unicast bytes
     of_part = subst Carries (part_here frame kind.Ip 14 (length frame) order (omega arith) accepted) (of_version (get_or bytes 0 0 / 16 == 4) refl)
 
   -- an IP packet whose turn it is
   pub ip_carried : (places : List Place) (stop : Option (Stop SliceError)) → IsLayoutFrom packet_grammar frame (Some turn_of) 14 (length frame) places stop
-      → carried frame (parts_behind frame bare places) ≡ packet_datagram bytes
+      → carried frame (parts_behind frame bare places) ≡ packet_datagram Unicast bytes
   ip_carried [] stop right = sym (none_cut bytes (cut_refused Len Ip bytes right.0 right.1))
   ip_carried (place ∷ more) stop right =
-      let P : Place → Type 0 = λ p. carried frame (parts_behind frame bare (p ∷ more)) ≡ packet_datagram bytes in
+      let P : Place → Type 0 = λ p. carried frame (parts_behind frame bare (p ∷ more)) ≡ packet_datagram Unicast bytes in
       let rest = rw right.1 at right.2 in
       subst P (sym right.1) (of_part right.0 more stop rest)

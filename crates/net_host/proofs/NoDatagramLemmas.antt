@@ -2,6 +2,7 @@
 use Rattle.std.proofs.Common.{◌≡◌, ℕ, ◌/◌, ◌<◌, ◌≤◌, Bool, true, false, cond, List, length, get_or, Option, None, refl, arith}
 use Rattle.std.specs.Prelude.{◌==◌, ◌&&◌, nat_le}
 use Rattle.std.proofs.lemmas.Bool.{and_left, and_right, and_parts, lt-leb, le-leb, leb-true, eqb-true}
+use Rattle.net_wire.specs.declared.arrival.Sources.TheVariants.{Unicast}
 use Rattle.net_wire.specs.Arrival.{ip_header_len, total_len, body_of, is_packet, is_unfragmented, is_udp_packet, has_udp, has_right_sum, packet_datagram}
 use Rattle.net_wire.specs.DhcpRead.{address_at}
 
@@ -9,25 +10,25 @@ no_choice : {A : Type 0} (test : Bool) → cond {A = Option A} test None None �
 no_choice true = refl
 no_choice false = refl
 
-pub none_cut : (packet : List ℕ) → is_packet packet ≡ false → packet_datagram packet ≡ None
+pub none_cut : (packet : List ℕ) → is_packet packet ≡ false → packet_datagram Unicast packet ≡ None
 none_cut packet is = rw is refl
 
 pub none_of_version : (packet : List ℕ) → (get_or packet 0 0 / 16 == 4) ≡ false → is_packet packet ≡ false
 none_of_version packet other = and_left _ _ (and_left _ _ (and_left _ _ (and_right _ _ other)))
 
-none_unless_udp : (packet : List ℕ) → is_udp_packet packet ≡ false → packet_datagram packet ≡ None
-none_unless_udp packet is = let no : is_packet packet && is_udp_packet packet ≡ false = and_right _ _ is in rw no refl
+none_unless_udp : (packet : List ℕ) → is_udp_packet Unicast packet ≡ false → packet_datagram Unicast packet ≡ None
+none_unless_udp packet is = let no : is_packet packet && is_udp_packet Unicast packet ≡ false = and_right _ _ is in rw no refl
 
-pub none_other : (packet : List ℕ) → (get_or packet 9 0 == 17) ≡ false → packet_datagram packet ≡ None
+pub none_other : (packet : List ℕ) → (get_or packet 9 0 == 17) ≡ false → packet_datagram Unicast packet ≡ None
 none_other packet other = none_unless_udp packet (and_right _ _ other)
 
-pub none_fragment : (packet : List ℕ) → is_unfragmented packet ≡ false → packet_datagram packet ≡ None
+pub none_fragment : (packet : List ℕ) → is_unfragmented packet ≡ false → packet_datagram Unicast packet ≡ None
 none_fragment packet part = none_unless_udp packet (and_left _ _ (and_left _ _ (and_right _ _ part)))
 
-pub none_short : (packet : List ℕ) → has_udp (body_of packet) ≡ false → packet_datagram packet ≡ None
+pub none_short : (packet : List ℕ) → has_udp (body_of packet) ≡ false → packet_datagram Unicast packet ≡ None
 none_short packet short =
     let no : has_udp (body_of packet) && has_right_sum (address_at packet 12) (address_at packet 16) (body_of packet) ≡ false = and_left _ _ short in
-    rw no (no_choice (is_packet packet && is_udp_packet packet))
+    rw no (no_choice (is_packet packet && is_udp_packet Unicast packet))
 
 pub short_body : (body : List ℕ) → length body < 8 → has_udp body ≡ false
 short_body body short = and_left _ _ (and_left _ _ (lt-leb 8 (length body) short))

@@ -5,6 +5,7 @@ use Rattle.std.proofs.lemmas.Bool.{and_left, lt-leb}
 use Rattle.net_wire.specs.declared.address.EthernetAddress.{EthernetAddress}
 use Rattle.net_wire.specs.declared.address.IpAddress.{IpAddress}
 use Rattle.net_wire.specs.declared.arp.ArpRepr.{ArpRepr}
+use Rattle.net_wire.specs.declared.arrival.Sources.TheVariants.{Unicast}
 use Rattle.net_wire.specs.Arrival.{arriving_datagram, packet_datagram}
 use Rattle.net_wire.specs.Datagram.{Datagram}
 use Rattle.dhcp_client.specs.Config.{ClientSettings}
@@ -64,5 +65,5 @@ told_hardware (Some arp) out = refl
 -- a frame that is shorter than an Ethernet header carries nothing
 pub none_short : (hardware : EthernetAddress) (bytes : List ℕ) → length bytes < 14 → arriving_datagram hardware bytes ≡ None
 none_short hardware bytes short =
-    ap (λ b. cond b (packet_datagram (drop 14 bytes)) None)
+    ap (λ b. cond b (packet_datagram Unicast (drop 14 bytes)) None)
     (and_left _ _ (and_left (nat_le 14 (length bytes)) _ (lt-leb 14 (length bytes) short)))

@@ -8,9 +8,9 @@ use Rattle.wire_base.specs.Bytes.{be16_at, bytes_between}
 use Rattle.wire_base.specs.Checksum.{word_sum, SumsToZero}
 use Rattle.net_wire.specs.declared.address.EthernetAddress.{EthernetAddress}
 use Rattle.net_wire.specs.declared.address.Ipv4Address.{Ipv4Address}
-use Rattle.net_wire.specs.Arrival.{has_packet_for, is_taken_by, is_packet, is_udp_packet, has_udp, has_right_sum, total_len, udp_len, body_of, packet_datagram, udp_datagram, arriving_datagram, SentFramesArrive}
+use Rattle.net_wire.specs.Arrival.{has_packet_for, is_taken_by, is_packet, is_udp_packet, has_udp, has_right_sum, total_len, udp_len, body_of, packet_datagram, udp_datagram, carried_datagram, counts, SentFramesArrive}
+use Rattle.net_wire.specs.declared.arrival.Sources.{Sources}
 use Rattle.net_wire.specs.Datagram.{Datagram, ethernet_bytes, ipv4_bytes, udp_bytes, pseudo_header}
-use Rattle.net_wire.specs.Unicast.{is_unicast}
 
 -- the cells of short lists
 pub four_cells : (xs : List ℕ) → length xs ≡ 4 → xs ≡ get_or xs 0 0 ∷ get_or xs 1 0 ∷ get_or xs 2 0 ∷ get_or xs 3 0 ∷ []
@@ -54,10 +54,10 @@ is_whole_packet : (packet : List ℕ) → 20 ≤ length packet → get_or packet
     → is_packet packet ≡ true
 is_whole_packet packet long first total = rw (first, total, le-leb 20 (length packet) long, le-leb (length packet) (length packet) (omega arith)) refl
 
-is_right_packet : (packet header : List ℕ) (source : Ipv4Address) → get_or packet 0 0 ≡ 0x45 → take 20 packet ≡ header
+is_right_packet : (sources : Sources) (packet header : List ℕ) (source : Ipv4Address) → get_or packet 0 0 ≡ 0x45 → take 20 packet ≡ header
     → SumsToZero header → be16_at packet 6 ≡ 0x4000 → bytes_between 12 16 packet ≡ source.0 → get_or packet 9 0 ≡ 17
-    → is_unicast source ≡ true → is_udp_packet packet ≡ true
-is_right_packet packet header source first front sums flags is_source protocol unicast =
+    → counts sources source ≡ true → is_udp_packet sources packet ≡ true
+is_right_packet sources packet header source first front sums flags is_source protocol unicast =
     rw (first, front, sums, flags, is_source, protocol, unicast) refl
 
 -- the packet that is sent
@@ -168,18 +168,18 @@ udp_found source destination body payload source_port destination_port long len 
     let is_payload : bytes_between 8 (udp_len body) body ≡ payload = rw (len, without_eight (length payload), rest) (take-length payload) in
     rw (has, right, from, to, is_payload) refl
 
-packet_found : (packet body : List ℕ) (source destination : Ipv4Address) → is_packet packet ≡ true → is_udp_packet packet ≡ true
+packet_found : (sources : Sources) (packet body : List ℕ) (source destination : Ipv4Address) → is_packet packet ≡ true → is_udp_packet sources packet ≡ true
     → bytes_between 12 16 packet ≡ source.0 → bytes_between 16 20 packet ≡ destination.0 → body_of packet ≡ body
-    → packet_datagram packet ≡ udp_datagram source destination body
-packet_found packet body source destination is_whole is_udp from to is_body = rw (is_whole, is_udp, from, to, is_body) refl
+    → packet_datagram sources packet ≡ udp_datagram source destination body
+packet_found sources packet body source destination is_whole is_udp from to is_body = rw (is_whole, is_udp, from, to, is_body) refl
 
-frame_found : (hardware : EthernetAddress) (frame packet : List ℕ) → has_packet_for hardware frame ≡ true → drop 14 frame ≡ packet
-    → arriving_datagram hardware frame ≡ packet_datagram packet
-frame_found hardware frame packet has rest = rw (has, rest) refl
+frame_found : (sources : Sources) (hardware : EthernetAddress) (frame packet : List ℕ) → has_packet_for hardware frame ≡ true → drop 14 frame ≡ packet
+    → carried_datagram sources hardware frame ≡ packet_datagram sources packet
+frame_found sources hardware frame packet has rest = rw (has, rest) refl
 
 pub sent_frames_arrive : SentFramesArrive
 unfolding ethernet_bytes
-sent_frames_arrive from to hardware hop_limit d frame from_six to_six wire unicast taken h =
+sent_frames_arrive sources from to hardware hop_limit d frame from_six to_six wire unicast taken h =
     let n = length d.payload + 8 in
     let header = ipv4_bytes d.source d.destination 17 n hop_limit h.ipv4.checksum in
     let udp = udp_bytes d.source_port d.destination_port n h.udp_checksum in
@@ -196,7 +196,7 @@ sent_frames_arrive from to hardware hop_limit d frame from_six to_six wire unica
     let first = sent_first d.source d.destination n hop_limit h.ipv4.checksum body in
     let source = sent_source d.source d.destination n hop_limit h.ipv4.checksum body wire.source in
     let is_whole = is_whole_packet packet (omega (arith, packet_long)) first (total ∙ sym packet_long) in
-    let is_udp = is_right_packet packet header d.source first
+    let is_udp = is_right_packet sources packet header d.source first
     (sent_header d.source d.destination n hop_limit h.ipv4.checksum body wire.source wire.destination) h.ipv4.sums
     (sent_flags d.source d.destination n hop_limit h.ipv4.checksum body) source
     (sent_protocol d.source d.destination n hop_limit h.ipv4.checksum body) unicast in
@@ -206,8 +206,8 @@ sent_frames_arrive from to hardware hop_limit d frame from_six to_six wire unica
     (eth_type to.0 from.0 packet to_six from_six)
     (omega (arith, length-append eth packet, packet_long, length-append (to.0 ++ from.0) (8 ∷ 0 ∷ []), length-append to.0 from.0)) taken in
     rw is_frame
-    (frame_found hardware (eth ++ packet) packet has (eth_rest to.0 from.0 packet to_six from_six)
-    ∙ packet_found packet body d.source d.destination is_whole is_udp source
+    (frame_found sources hardware (eth ++ packet) packet has (eth_rest to.0 from.0 packet to_six from_six)
+    ∙ packet_found sources packet body d.source d.destination is_whole is_udp source
     (sent_destination d.source d.destination n hop_limit h.ipv4.checksum body wire.source wire.destination) is_body
     ∙ udp_found d.source d.destination body d.payload d.source_port d.destination_port long
     (udp_len_is d.source_port d.destination_port n h.udp_checksum d.payload (omega arith))

@@ -2,12 +2,14 @@
 -- section 3.1; RFC 768). Sums are congruences: FFFF in a frame is the same number as 0000 (RFC 1071,
 -- section 2).
 use Rattle.std.specs.Prelude.{◌≡◌, ℕ, ◌*◌, ◌/◌, ◌%◌, ◌<◌, ◌≤◌, ◌==◌, ◌&&◌, ◌||◌, Bool, true, nat_eq, nat_le}
-use Rattle.std.specs.Prelude.{List, ◌++◌, length, take, drop, slice_index, Option, Some, None, if◌then◌else◌}
+use Rattle.std.specs.Prelude.{List, ◌++◌, length, replicate, take, drop, slice_index, Option, Some, None, if◌then◌else◌}
 use Rattle.std.specs.Cmp.Lexicographic.{pointwise}
 use Rattle.wire_base.specs.Bytes.{bytes_between, be16_at, flag_at}
 use Rattle.wire_base.specs.Checksum.{word_sum}
 use Rattle.net_wire.specs.declared.address.EthernetAddress.{EthernetAddress}
 use Rattle.net_wire.specs.declared.address.Ipv4Address.{Ipv4Address}
+use Rattle.net_wire.specs.declared.arrival.Sources.{Sources}
+use Rattle.net_wire.specs.declared.arrival.Sources.TheVariants.{Unicast, UnicastOrUnspecified}
 use Rattle.net_wire.specs.Datagram.{Datagram, pseudo_header, IsSentFrame}
 use Rattle.net_wire.specs.DhcpRead.{address_at, hardware_with}
 use Rattle.net_wire.specs.Unicast.{is_unicast}
@@ -53,11 +55,20 @@ is_packet packet =
 abbrev pub is_unfragmented : List ℕ → Bool
 is_unfragmented packet = be16_at packet 6 % 0x4000 == 0
 
--- a right header sum, no fragment, from one host, of the protocol UDP
-abbrev pub is_udp_packet : List ℕ → Bool
-is_udp_packet packet =
+-- 0.0.0.0, from which a host sends that has no address yet (RFC 1122, section 3.2.1.3)
+abbrev pub is_unspecified : Ipv4Address → Bool
+is_unspecified address = pointwise nat_eq address.0 (replicate 4 0)
+
+-- the addresses that count as sources
+abbrev pub counts : Sources → Ipv4Address → Bool
+counts Unicast source = is_unicast source
+counts UnicastOrUnspecified source = is_unicast source || is_unspecified source
+
+-- a right header sum, no fragment, from a source that counts, of the protocol UDP
+abbrev pub is_udp_packet : Sources → List ℕ → Bool
+is_udp_packet sources packet =
     sums_to_zero (take (ip_header_len packet) packet) && is_unfragmented packet
-    && is_unicast (address_at packet 12) && (slice_index packet 9 == 17)
+    && counts sources (address_at packet 12) && (slice_index packet 9 == 17)
 
 -- a UDP header of 8 bytes, and as many bytes as its length says
 abbrev pub has_udp : List ℕ → Bool
@@ -86,9 +97,9 @@ udp_datagram source destination body =
     else None
 
 -- the datagram of an IPv4 packet that is all there, with UDP right behind its header
-abbrev pub packet_datagram : List ℕ → Option Datagram
-packet_datagram packet =
-    if is_packet packet && is_udp_packet packet
+abbrev pub packet_datagram : Sources → List ℕ → Option Datagram
+packet_datagram sources packet =
+    if is_packet packet && is_udp_packet sources packet
     then udp_datagram (address_at packet 12) (address_at packet 16) (body_of packet) else None
 
 -- the ether type 0800 right behind the addresses, the destination being the station or a group
@@ -96,10 +107,14 @@ abbrev pub has_packet_for : EthernetAddress → List ℕ → Bool
 has_packet_for hardware frame =
     nat_le 14 (length frame) && (be16_at frame 12 == 0x0800) && is_for hardware frame
 
--- the datagram that a frame carries to a station, if it carries one
+-- the datagram that a frame carries to a station, if it carries one from a source that counts
+abbrev pub carried_datagram : Sources → EthernetAddress → List ℕ → Option Datagram
+carried_datagram sources hardware frame =
+    if has_packet_for hardware frame then packet_datagram sources (drop 14 frame) else None
+
+-- and one from one host
 abbrev pub arriving_datagram : EthernetAddress → List ℕ → Option Datagram
-arriving_datagram hardware frame =
-    if has_packet_for hardware frame then packet_datagram (drop 14 frame) else None
+arriving_datagram = carried_datagram Unicast
 
 -- what a datagram that can be sent is made of: addresses of four bytes, ports of 16 bits, at most 65507 bytes
 pub record IsSendable (datagram : Datagram) : Type 0 where
@@ -109,9 +124,9 @@ pub record IsSendable (datagram : Datagram) : Type 0 where
   pub destination_port : datagram.destination_port < 65536
   pub payload : length datagram.payload ≤ 65507
 
--- a frame that is sent with a datagram of one host carries it to each station that takes the frame
+-- a frame that is sent with a datagram of a source that counts carries it to each station that takes the frame
 abbrev pub SentFramesArrive : Type 0
-SentFramesArrive = (from to hardware : EthernetAddress) (hop_limit : ℕ) (datagram : Datagram) (frame : List ℕ)
-    → length from.0 ≡ 6 → length to.0 ≡ 6 → IsSendable datagram → is_unicast datagram.source ≡ true
-    → is_taken_by hardware to ≡ true → IsSentFrame from to hop_limit datagram frame
-    → arriving_datagram hardware frame ≡ Some datagram
+SentFramesArrive = (sources : Sources) (from to hardware : EthernetAddress) (hop_limit : ℕ) (datagram : Datagram)
+    (frame : List ℕ) → length from.0 ≡ 6 → length to.0 ≡ 6 → IsSendable datagram
+    → counts sources datagram.source ≡ true → is_taken_by hardware to ≡ true
+    → IsSentFrame from to hop_limit datagram frame → carried_datagram sources hardware frame ≡ Some datagram

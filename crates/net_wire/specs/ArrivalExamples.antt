@@ -2,7 +2,8 @@
 -- out apart.
 use Rattle.std.specs.Prelude.{◌≡◌, ℕ, List, [], ◌∷◌, ◌++◌, take, replicate, Some, None}
 use Rattle.net_wire.specs.declared.address.EthernetAddress.{EthernetAddress}
-use Rattle.net_wire.specs.Arrival.{arriving_datagram}
+use Rattle.net_wire.specs.declared.arrival.Sources.TheVariants.{UnicastOrUnspecified}
+use Rattle.net_wire.specs.Arrival.{arriving_datagram, carried_datagram}
 use Rattle.net_wire.specs.Datagram.{Datagram}
 use Rattle.net_wire.specs.DhcpRead.{address_with, hardware_with}
 
@@ -96,6 +97,13 @@ pub record DatagramsByExample : Type 0 where
       (ip_frame (header_with (0 ∷ 0 ∷ []) (0x9A ∷ 0xCD ∷ []) (224 ∷ 0 ∷ 0 ∷ 1 ∷ [])) bare_udp) ≡ None
   pub from_nobody : arriving_datagram station
       (ip_frame (header_with (0 ∷ 0 ∷ []) (0x7A ∷ 0xCF ∷ []) (replicate 4 0)) bare_udp) ≡ None
+  -- or none yet, where that counts too
+  pub from_nobody_yet : carried_datagram UnicastOrUnspecified station
+      (ip_frame (header_with (0 ∷ 0 ∷ []) (0x7A ∷ 0xCF ∷ []) (replicate 4 0)) bare_udp)
+      ≡ Some (datagram_from (replicate 4 0) (0xAA ∷ 0xBB ∷ 0xCC ∷ []))
+  pub from_a_host_then : carried_datagram UnicastOrUnspecified station (ip_frame header udp) ≡ Some datagram
+  pub from_group_then : carried_datagram UnicastOrUnspecified station
+      (ip_frame (header_with (0 ∷ 0 ∷ []) (0x9A ∷ 0xCD ∷ []) (224 ∷ 0 ∷ 0 ∷ 1 ∷ [])) bare_udp) ≡ None
   -- bytes behind the packet, and behind the datagram inside the packet, are not looked at
   pub padded : arriving_datagram station (ip_frame header udp ++ replicate 15 7) ≡ Some datagram
   pub shorter : arriving_datagram station (ip_frame header (udp_with 9 (0x93 ∷ 0xAB ∷ [])))

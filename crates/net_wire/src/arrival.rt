@@ -1,7 +1,7 @@
 //! The frames that a station takes off the link, and the UDP datagrams in them.
 ghost use Rattle.std.specs.Prelude.{◌≡◌, ◌≤◌, length, option_map, IsTrue};
 ghost use Rattle.net_wire.specs.Arrival.{is_for, is_packet, is_udp_packet, has_udp, has_right_sum, has_packet_for};
-ghost use Rattle.net_wire.specs.Arrival.{ip_header_len, total_len, udp_len, udp_datagram, packet_datagram, arriving_datagram};
+ghost use Rattle.net_wire.specs.Arrival.{ip_header_len, total_len, udp_len, udp_datagram, packet_datagram, carried_datagram};
 ghost use Rattle.net_wire.specs.ArrivalValues.{datagram_value};
 
 use crate::udp::pseudo_header;
@@ -18,6 +18,33 @@ pub struct Datagram<'a> {
     pub dst_port: u16,
     /// What stands behind the UDP header, of as many bytes as that says.
     pub payload: &'a [u8],
+}
+
+/// Whose datagrams count, by their IPv4 source.
+#[derive(Clone, Copy, Debug, PartialEq, Eq)]
+pub enum Sources {
+    /// Those of one host.
+    Unicast,
+    /// Those of one host, and those from 0.0.0.0, from which a host sends that has no address yet (RFC 1122,
+    /// section 3.2.1.3).
+    UnicastOrUnspecified,
+}
+
+impl Sources {
+    ghost use Rattle.std.specs.Prelude.{◌≡◌};
+    ghost use Rattle.net_wire.specs.Arrival.{counts};
+
+    /// Whether a source counts.
+    fn counts(self, source: Ipv4Address) -> bool
+        ensures { result ≡ counts self source }
+    {
+        match self {
+            Sources::Unicast => source.is_unicast(),
+            Sources::UnicastOrUnspecified => {
+                source.is_unicast() || source == Ipv4Address::UNSPECIFIED
+            }
+        }
+    }
 }
 
 /// Whether a frame goes to a station or to a group.
@@ -52,15 +79,15 @@ fn is_packet(packet: &[u8]) -> bool
     packet[0] / 16 == 4 && 20 <= header_len && header_len <= total_len && total_len <= packet.len()
 }
 
-/// Whether a header has the right sum, and announces a UDP datagram of one host that is no fragment.
-fn is_udp_packet(packet: &[u8]) -> bool
+/// Whether a header has the right sum, and announces a UDP datagram of a source that counts and is no fragment.
+fn is_udp_packet(packet: &[u8], sources: Sources) -> bool
     requires len { 20 ≤ length packet.now }
     requires header { ip_header_len packet.now ≤ length packet.now }
-    ensures { result ≡ is_udp_packet packet.now }
+    ensures { result ≡ is_udp_packet sources packet.now }
 {
     sum_words(&packet[..ip_header_len(packet)]) % 65535 == 0
         && read_be16(packet, 6) % 0x4000 == 0
-        && Ipv4Address(read_array(packet, 12)).is_unicast()
+        && sources.counts(Ipv4Address(read_array(packet, 12)))
         && packet[9] == 17
 }
 
@@ -114,10 +141,10 @@ fn udp_datagram<'a>(
 }
 
 /// The UDP datagram of an IPv4 packet.
-fn packet_datagram<'a>(packet: &'a [u8]) -> Option<Datagram<'a>>
-    ensures { option_map datagram_value result ≡ packet_datagram packet.entry.now }
+fn packet_datagram<'a>(packet: &'a [u8], sources: Sources) -> Option<Datagram<'a>>
+    ensures { option_map datagram_value result ≡ packet_datagram sources packet.entry.now }
 {
-    if !is_packet(packet) || !is_udp_packet(packet) {
+    if !is_packet(packet) || !is_udp_packet(packet, sources) {
         return None;
     }
     let body = &packet[ip_header_len(packet)..usize::from(read_be16(packet, 2))];
@@ -135,14 +162,19 @@ fn has_packet_for(frame: &[u8], hardware: EthernetAddress) -> bool
 }
 
 /// The UDP datagram that a frame carries to a station, if it carries one: in an untagged frame to the station
-/// or to a group, an IPv4 packet that is all there, from one host, with a right header sum and no fragment,
-/// and UDP right behind its header, with a right sum or none. Bytes behind the packet are not looked at.
-pub fn datagram_of(frame: &[u8], hardware: EthernetAddress) -> Option<Datagram<'_>>
-    ensures { option_map datagram_value result ≡ arriving_datagram hardware frame.entry.now }
+/// or to a group, an IPv4 packet that is all there, from a source that counts, with a right header sum and no
+/// fragment, and UDP right behind its header, with a right sum or none. Bytes behind the packet are not looked
+/// at.
+pub fn datagram_of(
+    frame: &[u8],
+    hardware: EthernetAddress,
+    sources: Sources,
+) -> Option<Datagram<'_>>
+    ensures { option_map datagram_value result ≡ carried_datagram sources hardware frame.entry.now }
 {
     if !has_packet_for(frame, hardware) {
         return None;
     }
     let (_, packet) = frame.split_at(14);
-    packet_datagram(packet)
+    packet_datagram(packet, sources)
 }

@@ -18,7 +18,7 @@ pub mod udp;
 
 pub use address::{EthernetAddress, IpAddress, Ipv4Address, Ipv4Cidr, Ipv6Address};
 pub use arp::{ArpRepr, arp_frame, arp_of};
-pub use arrival::{Datagram, datagram_of};
+pub use arrival::{Datagram, Sources, datagram_of};
 pub use dhcp::{DhcpMessageType, DhcpOption, DhcpRepr};
 pub use error::{Context, EmitError, Error, Malformed, NoMemory};
 pub use ethernet::EthernetRepr;

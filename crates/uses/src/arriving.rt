@@ -6,7 +6,7 @@ ghost use Rattle.uses.specs.Arriving.{is_dhcp_reply, asks_for, answer_to, reply_
 
 use net_wire::arp::{REPLY, REQUEST};
 use net_wire::{
-    ArpRepr, EthernetAddress, EthernetProtocol, EthernetRepr, Ipv4Address, arp_frame, arp_of,
+    ArpRepr, EthernetAddress, EthernetProtocol, EthernetRepr, Ipv4Address, Sources, arp_frame, arp_of,
     datagram_of,
 };
 
@@ -20,7 +20,7 @@ const CLIENT_PORT: u16 = 68;
 pub fn is_dhcp_reply(frame: &[u8], hardware: EthernetAddress) -> bool
     ensures value { result ≡ is_dhcp_reply (arriving_datagram hardware frame.now) }
 {
-    match datagram_of(frame, hardware) {
+    match datagram_of(frame, hardware, Sources::Unicast) {
         Some(datagram) => datagram.src_port == SERVER_PORT && datagram.dst_port == CLIENT_PORT,
         None => false,
     }

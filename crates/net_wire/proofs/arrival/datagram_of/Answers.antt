@@ -6,5 +6,5 @@ use Rattle.net_wire.proofs.arrival.datagram_of.Goals as goal
 
 pub returns : goal.returns
 returns c =
-    packet_arrives c.args.hardware c.args.frame.now c.split_at.result.1.now (option_map datagram_value c.packet_datagram.result)
+    packet_arrives c.args.sources c.args.hardware c.args.frame.now c.split_at.result.1.now (option_map datagram_value c.packet_datagram.result)
     (search rules) (search rules) c.packet_datagram.ensures
