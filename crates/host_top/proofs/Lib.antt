@@ -1,3 +1,4 @@
+pub mod ArgumentLemmas
 pub mod CommandLemmas
 pub mod CountLemmas
 pub mod DigitLemmas
@@ -6,11 +7,13 @@ pub mod EndingLemmas
 pub mod ExplainLemmas
 pub mod FinishLemmas
 pub mod HexLemmas
+pub mod Ipv4WordLemmas
 pub mod JoinLemmas
 pub mod MakingLemmas
 pub mod OneSettingLemmas
 pub mod PrintedLemmas
 pub mod RanLemmas
+pub mod ServeLemmas
 pub mod SettingLemmas
 pub mod SettingWordLemmas
 pub mod StatusLemmas

@@ -5,6 +5,7 @@ pub mod Ending
 pub mod Explain
 pub mod Generator
 pub mod HostMain
+pub mod Ipv4Word
 pub mod MakeWords
 pub mod Making
 pub mod Printed
@@ -13,6 +14,7 @@ pub mod QueryText
 pub mod Ran
 pub mod ReportText
 pub mod RunWords
+pub mod Serve
 pub mod Setting
 pub mod Status
 pub mod Summary

@@ -30,8 +30,8 @@ values_named serve = record {
 }
 
 -- the words are the server's two addresses, the range's first one and their number, a prefix, a lease and the most
--- events, and no server refuses them
-pub record WritesServe (words : List (List ℕ)) (serve : ServeCommand) : Type 0 where
+-- events
+pub record SpellsServe (words : List (List ℕ)) (serve : ServeCommand) : Type 0 where
   pub seven : length words ≡ 7
   pub hardware : IsAddressWord (argument_at words 0) serve.hardware
   pub address : IsIpv4Word (argument_at words 1) serve.address
@@ -40,6 +40,10 @@ pub record WritesServe (words : List (List ℕ)) (serve : ServeCommand) : Type 0
   pub prefix : IsPrefixWord (argument_at words 4) serve.prefix_len
   pub lease : IsU32Word (argument_at words 5) serve.lease_secs
   pub max : IsCountWord (argument_at words 6) serve.max_events
+
+-- and no server refuses what they say
+pub record WritesServe (words : List (List ℕ)) (serve : ServeCommand) : Type 0 where
+  pub spells : SpellsServe words serve
   pub accepted : refused (values_named serve) ≡ None
 
 -- what it relies on

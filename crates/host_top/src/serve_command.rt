@@ -1,7 +1,7 @@
 //! The command that serves leases.
 ghost use Rattle.std.specs.Prelude.{◌≡◌, ℕ, map, string_bytes, IfSome, IfNone, None};
 ghost use Rattle.lease_server.specs.Values.{values_of, refused};
-ghost use Rattle.host_top.specs.Serve.{IsRangeWord, IsPrefixWord, WritesServe, IsServable, values_named};
+ghost use Rattle.host_top.specs.Serve.{IsRangeWord, IsPrefixWord, SpellsServe, WritesServe, values_named};
 
 use crate::command::count_of;
 use crate::ipv4_word::ipv4_of;
@@ -34,10 +34,22 @@ pub(crate) fn serve_of(words: &[String]) -> Option<ServeCommand>
     ensures found { IfSome result (WritesServe (map string_bytes words.now)) }
     ensures refuses { IfNone result ((serve : ServeCommand) → WritesServe (map string_bytes words.now) serve → ⊥) }
 {
+    let serve = spelled(words)?;
+    match Server::check(&values_of(&serve)) {
+        Ok(()) => Some(serve),
+        Err(_) => None,
+    }
+}
+
+/// What the words say, whether or not a server refuses it.
+fn spelled(words: &[String]) -> Option<ServeCommand>
+    ensures found { IfSome result (SpellsServe (map string_bytes words.now)) }
+    ensures refuses { IfNone result ((serve : ServeCommand) → SpellsServe (map string_bytes words.now) serve → ⊥) }
+{
     let [hardware, address, first, count, prefix, lease, max_events] = words else {
         return None;
     };
-    let serve = ServeCommand {
+    Some(ServeCommand {
         hardware: address_of(hardware.as_bytes())?,
         address: ipv4_of(address.as_bytes())?,
         first: ipv4_of(first.as_bytes())?,
@@ -45,11 +57,7 @@ pub(crate) fn serve_of(words: &[String]) -> Option<ServeCommand>
         prefix_len: prefix_of(prefix.as_bytes())?,
         lease_secs: u32_of(lease.as_bytes())?,
         max_events: count_of(max_events.as_bytes())?,
-    };
-    if Server::check(&values_of(&serve)).is_err() {
-        return None;
-    }
-    Some(serve)
+    })
 }
 
 /// What the server is told.
