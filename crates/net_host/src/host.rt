@@ -208,7 +208,8 @@ impl<'a, 'm> Host<'a, 'm> {
     {
         match event {
             ScriptEvent::Frame(frame) => {
-                self.take_told(arp_of(frame, self.out.hardware))?;
+                let told = arp_of(frame, self.out.hardware);
+                self.take_told(told)?;
                 let datagram = datagram_of(frame, self.out.hardware, Sources::Unicast);
                 tell_datagram(&mut self.dhcp, &mut self.dns, cx, datagram);
                 Ok(None)

@@ -19,11 +19,11 @@ returns-in_ok-take_told-in-Frame-clause-queries c =
     let told = c.in_ok-take_told-in-Frame.ensures in
     let new : Host = record c.take_told.new.self { dhcp = c.tell_datagram.new.dhcp; dns = c.tell_datagram.new.dns } in
     let arrival : arrival_of c.args.event ≡ Frame bytes = ap arrival_of c.in-Frame.is in
-    let same_hardware = ap (λ (e : Emitter). e.hardware) told.out ∙ told_hardware c.arp_of.result old.out in
+    let same_hardware = ap (λ (e : Emitter). e.hardware) told.out ∙ told_hardware c.arp_of-told.result old.out in
     subst (λ a. HearsQueries a c.args.words old new None) (sym arrival)
     (frame_heard bytes c.args.words old new (option_map datagram_value c.datagram_of-datagram.result)
     told.queries
-    (ap (λ (e : Emitter). e.numbers) told.out ∙ told_numbers c.arp_of.result old.out)
+    (ap (λ (e : Emitter). e.numbers) told.out ∙ told_numbers c.arp_of-told.result old.out)
     (ap (λ hardware. arriving_datagram hardware bytes) (sym same_hardware) ∙ sym c.datagram_of-datagram.ensures)
     (λ settings servers slots numbers is_client stand.
     c.tell_datagram.ensures.queries settings servers slots numbers
