@@ -9,7 +9,9 @@ ghost use Rattle.capture_explain.specs.Reading.{head_bytes, GivesHeader, CutsHea
 ghost use Rattle.capture_explain.specs.declared.error.ExplainError.TheVariants.{Entry, Limit, Read};
 
 use crate::ExplainError;
+use net_wire::NoMemory;
 use script_source::{ScriptSource, fill};
+use std::alloc::Global;
 use wire_base::number::read_array;
 
 /// The bytes of the header of a file.
@@ -25,7 +27,7 @@ const HEADER_END: [u8; 4] = [1, 0, 0, 0];
 const HEAD_LEN: usize = 16;
 
 /// The most bytes of a frame that are captured.
-pub(crate) const FRAME_LEN: usize = 262_144;
+const FRAME_LEN: usize = 262_144;
 
 /// The four numbers in front of a frame.
 #[derive(Clone, Copy, Debug)]
@@ -34,6 +36,16 @@ pub(crate) struct EntryHead {
     pub micros: u32,
     pub captured: u32,
     pub length: u32,
+}
+
+/// A buffer that any frame has room in.
+pub(crate) fn frame_room(alloc: Global) -> Result<Vec<u8>, NoMemory>
+    ensures { IfOk result (λ room. length room.items ≡ 262144) }
+{
+    match vec![in alloc; 0; FRAME_LEN] {
+        Ok(room) => Ok(room),
+        Err(_) => Err(NoMemory),
+    }
 }
 
 /// Both are the same bytes.

@@ -10,6 +10,7 @@ mod explanation;
 pub mod laws;
 mod layers;
 mod parts;
+mod printing;
 mod row_text;
 mod text;
 
@@ -18,4 +19,5 @@ pub use error::ExplainError;
 pub use explaining::explain;
 pub use explanation::{ExplainRow, Explanation};
 pub use parts::{AhList, AhPart, EspPart, Part, PartKind, PartList};
+pub use printing::print_capture;
 pub use row_text::explain_text;
