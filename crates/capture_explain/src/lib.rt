@@ -2,7 +2,7 @@
 #![tactic(auto)]
 
 mod dissecting;
-mod entry_reader;
+pub mod entry_reader;
 mod error;
 pub mod examples;
 mod explaining;
@@ -11,7 +11,7 @@ pub mod laws;
 mod layers;
 mod parts;
 mod row_text;
-mod text;
+pub mod text;
 
 pub use dissecting::{Dissection, dissect};
 pub use error::ExplainError;
