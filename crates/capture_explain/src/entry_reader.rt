@@ -27,14 +27,17 @@ const HEADER_END: [u8; 4] = [1, 0, 0, 0];
 const HEAD_LEN: usize = 16;
 
 /// The most bytes of a frame that are captured.
-const FRAME_LEN: usize = 262_144;
+pub const FRAME_LEN: usize = 262_144;
 
 /// The four numbers in front of a frame.
 #[derive(Clone, Copy, Debug)]
-pub(crate) struct EntryHead {
+pub struct EntryHead {
+    /// The time of the frame: seconds, and microseconds beside them.
     pub secs: u32,
     pub micros: u32,
+    /// How many of its bytes were captured.
     pub captured: u32,
+    /// How many bytes the frame had, as the entry says.
     pub length: u32,
 }
 
@@ -65,7 +68,7 @@ fn is_header(bytes: &[u8]) -> bool
 }
 
 /// Reads the header of a file.
-pub(crate) fn read_header<S: ScriptSource>(source: &mut S) -> Result<(), ExplainError>
+pub fn read_header<S: ScriptSource>(source: &mut S) -> Result<(), ExplainError>
     ensures ok { OnOk result (GivesHeader (S.left source.old) (S.left source.new)) }
     ensures err { IfErr result (λ e. CutsHeader e (S.left source.old) (S.left source.new)) }
     ensures read { IsErrOf result Read → IsRisen (S.faults source.old) (S.faults source.new) }
@@ -133,7 +136,7 @@ fn read_numbers<S: ScriptSource>(
 
 /// Reads the next entry, its frame to the front of `frame`; at the end of input there is none. `offset` is
 /// the place of its first byte in the file, and `is_full` says that no entry may come any more.
-pub(crate) fn read_entry<S: ScriptSource>(
+pub fn read_entry<S: ScriptSource>(
     source: &mut S,
     is_full: bool,
     offset: u64,

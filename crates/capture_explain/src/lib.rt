@@ -2,7 +2,7 @@
 #![tactic(auto)]
 
 mod dissecting;
-mod entry_reader;
+pub mod entry_reader;
 mod error;
 pub mod examples;
 mod explaining;
@@ -12,7 +12,7 @@ mod layers;
 mod parts;
 mod printing;
 mod row_text;
-mod text;
+pub mod text;
 
 pub use dissecting::{Dissection, dissect};
 pub use error::ExplainError;
