@@ -1,7 +1,8 @@
 -- Words that name a command.
-use Rattle.std.proofs.Common.{◌≡◌, ℕ, ◌⊎◌, inl, inr, ◌-◌, ◌*◌, ◌≤◌, false, List, [], ◌∷◌, length, length-drop, get_or, take, drop, map, codes, Option, None, Some, IfSome, IfNone, option_map, unwrap_or, refl, sym, ◌∙◌, ap, ap₂, subst, arith}
+use Rattle.std.proofs.Common.{◌≡◌, ℕ, ◌⊎◌, inl, inr, ◌-◌, ◌*◌, ◌≤◌, Bool, false, List, [], ◌∷◌, length, length-drop, get_or, take, drop, map, codes, Option, None, Some, IfSome, IfNone, cond, nat_eq, option_map, unwrap_or, refl, sym, ◌∙◌, ap, ap₂, subst, arith}
+use Rattle.std.specs.Cmp.Lexicographic.{pointwise}
 use Rattle.std.proofs.lemmas.List.{take_all}
-use Rattle.std.proofs.lemmas.Option.{none-some}
+use Rattle.std.proofs.lemmas.Option.{none-some, same_Some}
 use Rattle.host_model.specs.Settings.{Settings}
 use Rattle.net_host.specs.declared.config.HostConfigError.{HostConfigError}
 use Rattle.net_host.specs.Config.{refusal_of}
@@ -16,12 +17,12 @@ use Rattle.host_top.specs.declared.command.MakeCommand.{MakeCommand}
 use Rattle.host_top.specs.declared.command.RunCommand.{RunCommand}
 use Rattle.host_top.specs.declared.setting.RunSettings.{RunSettings}
 use Rattle.host_top.specs.declared.disturb_command.DisturbCommand.{DisturbCommand}
-use Rattle.host_top.specs.Disturb.{WritesDisturb}
+use Rattle.host_top.specs.Disturb.{WritesDisturb, IsDisturbable}
 use Rattle.host_top.specs.declared.explain_command.ExplainCommand.{ExplainCommand}
-use Rattle.host_top.specs.Explain.{WritesExplain}
-use Rattle.host_top.specs.RunWords.{WritesRun, NamesRun, IsRunnable, settings_named}
-use Rattle.host_top.specs.MakeWords.{WritesMake, NamesMake, run_of_make}
-use Rattle.host_top.specs.Command.{NameHelp, IsHelpWord, IsKeyword, NameWork, NameLiveWork, CanBeLive, Names, AreNamed, command_asked, IsTaken, NamesOne, IsCommand}
+use Rattle.host_top.specs.Explain.{WritesExplain, IsExplainable}
+use Rattle.host_top.specs.RunWords.{WritesRun, IsRunnable, settings_named}
+use Rattle.host_top.specs.MakeWords.{WritesMake, run_of_make}
+use Rattle.host_top.specs.Command.{IsKeyword, WritesAs, NameWork, NameLiveWork, CanBeLive, Names, AreNamed, command_asked, IsTaken, NamesOne, IsCommand}
 use Rattle.host_top.specs.HostMain.{Ask, AskForNoWork, AskToExplain}
 use Rattle.host_top.specs.Setting.{Sets}
 use Rattle.host_top.proofs.OneSettingLemmas.{sets_one}
@@ -34,7 +35,7 @@ behind_three f (x ∷ []) a b c behind is = absurd (cc)
 behind_three f (x ∷ y ∷ []) a b c behind is = absurd (cc)
 behind_three f (x ∷ y ∷ z ∷ words) a b c behind is = cc
 
-behind_one : {X : Type 0} (f : X → List ℕ) (words : List X) (a : List ℕ) (behind : List (List ℕ)) → map f words ≡ a ∷ behind
+behind : List (List ℕ)) → map f words ≡ a ∷ behind
     → behind ≡ map f (drop 1 words)
 behind_one f [] a behind is = absurd (cc)
 behind_one f (x ∷ words) a behind is = cc
@@ -49,91 +50,13 @@ unset f words none run writes =
     let are = behind_three f words writes.hardware_word writes.seed_word writes.max_word writes.setting_words writes.are in
     none run.settings (subst (λ l. Sets (map f l) run.settings) (behind words 3) (subst (λ l. Sets l run.settings) are writes.settings))
 
--- a word that asks how the program is used is none of these
-help_key : (key : List ℕ) → (key ≡ codes "help" → ⊥) → (key ≡ codes "--help" → ⊥) → (key ≡ codes "-h" → ⊥) → IsHelpWord key → ⊥
-help_key key long dashed short (inl is) = long is
-help_key key long dashed short (inr (inl is)) = dashed is
-help_key key long dashed short (inr (inr is)) = short is
-
-other_than : (key word : List ℕ) → (IsHelpWord key → ⊥) → IsHelpWord word → word ≡ key → ⊥
-other_than key word other asks same = other (subst IsHelpWord same asks)
-
--- words that differ in one letter
-other_letter : (n : ℕ) (xs ys : List ℕ) → (get_or xs n 0 ≡ get_or ys n 0 → ⊥) → xs ≡ ys → ⊥
-other_letter n xs ys differ is = differ (ap (λ l. get_or l n 0) is)
-
-run_is_no_help : IsHelpWord (codes "run") → ⊥
-run_is_no_help = help_key (codes "run") (λ is. cc) (λ is. cc) (λ is. cc)
-
-make_is_no_help : IsHelpWord (codes "make") → ⊥
-make_is_no_help =
-    help_key (codes "make") (other_letter 0 (codes "make") (codes "help") (λ (e : 109 ≡ 104). omega (arith, e)))
-    (other_letter 0 (codes "make") (codes "--help") (λ (e : 109 ≡ 45). omega (arith, e)))
-    (other_letter 0 (codes "make") (codes "-h") (λ (e : 109 ≡ 45). omega (arith, e)))
-
-disturb_is_no_help : IsHelpWord (codes "disturb") → ⊥
-disturb_is_no_help = help_key (codes "disturb") (λ is. cc) (λ is. cc) (λ is. cc)
-
-explain_is_no_help : IsHelpWord (codes "explain") → ⊥
-explain_is_no_help =
-    help_key (codes "explain") (other_letter 0 (codes "explain") (codes "help") (λ (e : 101 ≡ 104). omega (arith, e)))
-    (other_letter 0 (codes "explain") (codes "--help") (λ (e : 101 ≡ 45). omega (arith, e)))
-    (other_letter 0 (codes "explain") (codes "-h") (λ (e : 101 ≡ 45). omega (arith, e)))
-
--- the first of the words is the name of a command
-abbrev IsFirst : {X : Type 0} → (X → List ℕ) → List X → List ℕ → Type 0
-IsFirst {X} f words key = (word : List ℕ) (behind : List (List ℕ)) → map f words ≡ word ∷ behind → word ≡ key
-
 -- the words behind the first one
 abbrev behind_first : {X : Type 0} → (X → List ℕ) → List X → List (List ℕ)
 behind_first {X} f words = map f (take (length words - 1) (drop 1 words))
 
-moved_behind : {X : Type 0} (f : X → List ℕ) (words : List X) (key : List ℕ) (rest : List (List ℕ)) → map f words ≡ key ∷ rest
-    → rest ≡ behind_first f words
-moved_behind f words key rest are = behind_one f words key rest are ∙ ap (map f) (behind words 1)
-
--- where the words behind the first one write nothing
-pub unwritten : {X : Type 0} (f : X → List ℕ) (words : List X) → ((run : RunCommand) → WritesRun (behind_first f words) run → ⊥)
-    → IsFirst f words (codes "run") → (command : Command) → NameWork (map f words) command → ⊥
-unwritten f words none first (Run run) named =
-    none run (subst (λ l. WritesRun l run) (moved_behind f words (codes "run") named.behind named.are) named.write)
-unwritten f words none first (Make make) named = absurd (cc (first (codes "make") named.behind named.are))
-unwritten f words none first (Explain explain) named =
-    other_letter 0 (codes "explain") (codes "run") (λ (e : 101 ≡ 114). omega (arith, e)) (first (codes "explain") named.behind named.are)
-unwritten f words none first (Disturb disturb) named = absurd (cc (first (codes "disturb") named.behind named.are))
-unwritten f words none first Help named =
-    other_than (codes "run") named.word run_is_no_help named.asks (first named.word [] named.are)
-
-pub unmade : {X : Type 0} (f : X → List ℕ) (words : List X) → ((make : MakeCommand) → WritesMake (behind_first f words) make → ⊥)
-    → IsFirst f words (codes "make") → (command : Command) → NameWork (map f words) command → ⊥
-unmade f words none first (Run run) named = absurd (cc (first (codes "run") named.behind named.are))
-unmade f words none first (Make make) named =
-    none make (subst (λ l. WritesMake l make) (moved_behind f words (codes "make") named.behind named.are) named.write)
-unmade f words none first (Explain explain) named =
-    other_letter 0 (codes "explain") (codes "make") (λ (e : 101 ≡ 109). omega (arith, e)) (first (codes "explain") named.behind named.are)
-unmade f words none first (Disturb disturb) named = absurd (cc (first (codes "disturb") named.behind named.are))
-unmade f words none first Help named =
-    other_than (codes "make") named.word make_is_no_help named.asks (first named.word [] named.are)
-
-pub undisturbed : {X : Type 0} (f : X → List ℕ) (words : List X)
-    → ((disturb : DisturbCommand) → WritesDisturb (behind_first f words) disturb → ⊥)
-    → IsFirst f words (codes "disturb") → (command : Command) → NameWork (map f words) command → ⊥
-undisturbed f words none first (Run run) named = absurd (cc (first (codes "run") named.behind named.are))
-undisturbed f words none first (Make make) named = absurd (cc (first (codes "make") named.behind named.are))
-undisturbed f words none first (Explain explain) named =
-    other_letter 0 (codes "explain") (codes "disturb") (λ (e : 101 ≡ 100). omega (arith, e)) (first (codes "explain") named.behind named.are)
-undisturbed f words none first (Disturb disturb) named =
-    none disturb (subst (λ l. WritesDisturb l disturb) (moved_behind f words (codes "disturb") named.behind named.are) named.write)
-undisturbed f words none first Help named =
-    other_than (codes "disturb") named.word disturb_is_no_help named.asks (first named.word [] named.are)
-
 -- lists of words begin with one word
 one_first : (words : List (List ℕ)) (a b : List ℕ) (xs ys : List (List ℕ)) → words ≡ a ∷ xs → words ≡ b ∷ ys → a ≡ b
 one_first words a b xs ys one other = ap (λ l. get_or l 0 []) (sym one ∙ other)
-
-pub is_first : {X : Type 0} (f : X → List ℕ) (words : List X) (key : List ℕ) (rest : List (List ℕ)) → map f words ≡ key ∷ rest
-    → IsFirst f words key
-is_first f words key rest are word behind is = one_first (map f words) word key behind rest is are
 
 -- words, by the first one, whose bytes these are
 pub opened : {X : Type 0} (f : X → List ℕ) (words : List X) (word : X) (bytes : List ℕ) → 1 ≤ length words → word ≡ get_or words 0 word
@@ -143,48 +66,52 @@ opened f (first ∷ words) word bytes some is are =
     ap (λ l. f first ∷ map f l) (behind (first ∷ words) 1)
     ∙ ap (λ w. w ∷ behind_first f (first ∷ words)) (sym (ap f is) ∙ sym are)
 
-pub opened_as : {X : Type 0} (f : X → List ℕ) (words : List X) (word : X) (bytes key : List ℕ) → 1 ≤ length words → word ≡ get_or words 0 word
-    → bytes ≡ f word → bytes ≡ key → map f words ≡ key ∷ behind_first f words
-opened_as f words word bytes key some is are same = opened f words word bytes some is are ∙ ap (λ w. w ∷ behind_first f words) same
+-- what a first word asks for, read off it
+abbrev is_word : List ℕ → List ℕ → Bool
+is_word word key = pointwise nat_eq word key
+
+abbrev keyword_in : List ℕ → Option Keyword
+keyword_in word =
+    cond (is_word word (codes "run")) (Some keyword.Run)
+    (cond (is_word word (codes "make")) (Some keyword.Make)
+    (cond (is_word word (codes "explain")) (Some keyword.Explain)
+    (cond (is_word word (codes "disturb")) (Some keyword.Disturb)
+    (cond (is_word word (codes "help")) (Some keyword.Help)
+    (cond (is_word word (codes "--help")) (Some keyword.Help)
+    (cond (is_word word (codes "-h")) (Some keyword.Help) None))))))
+
+keyword_found : (word : List ℕ) (asked : Keyword) → IsKeyword word asked → keyword_in word ≡ Some asked
+keyword_found word keyword.Run is = ap keyword_in is
+keyword_found word keyword.Make is = ap keyword_in is
+keyword_found word keyword.Explain is = ap keyword_in is
+keyword_found word keyword.Disturb is = ap keyword_in is
+keyword_found word keyword.Help (inl is) = ap keyword_in is
+keyword_found word keyword.Help (inr (inl is)) = ap keyword_in is
+keyword_found word keyword.Help (inr (inr is)) = ap keyword_in is
+
+-- so it asks for one thing at most, and `live` for none of them
+one_keyword : (word : List ℕ) (one other : Keyword) → IsKeyword word one → IsKeyword word other → one ≡ other
+one_keyword word one other first second =
+    same_Some one other (sym (keyword_found word one first) ∙ keyword_found word other second)
+
+live_is_no_keyword : (word : List ℕ) (asked : Keyword) → word ≡ codes "live" → IsKeyword word asked → ⊥
+live_is_no_keyword word asked live is = none-some asked (ap keyword_in (sym live) ∙ keyword_found word asked is)
 
 -- where the first word is that of no command
 pub unworded : (words rest : List (List ℕ)) (word : List ℕ) → words ≡ word ∷ rest → ((key : Keyword) → IsKeyword word key → ⊥)
     → (command : Command) → NameWork words command → ⊥
-unworded words rest word are none (Run run) named = none keyword.Run (one_first words word (codes "run") rest named.behind are named.are)
-unworded words rest word are none (Make make) named = none keyword.Make (one_first words word (codes "make") rest named.behind are named.are)
-unworded words rest word are none (Disturb disturb) named =
-    none keyword.Disturb (one_first words word (codes "disturb") rest named.behind are named.are)
-unworded words rest word are none (Explain explain) named =
-    none keyword.Explain (one_first words word (codes "explain") rest named.behind are named.are)
-unworded words rest word are none Help named =
-    none keyword.Help (subst IsHelpWord (one_first words named.word word [] rest named.are are) named.asks)
+unworded words rest word are none command named =
+    none named.keyword (subst (λ w. IsKeyword w named.keyword) (one_first words named.word word named.behind rest named.are are) named.asks)
 
--- where more words stand behind one that asks how the program is used
-pub unhelped : (words : List (List ℕ)) (word more : List ℕ) (rest : List (List ℕ)) → words ≡ word ∷ more ∷ rest → IsHelpWord word
-    → (command : Command) → NameWork words command → ⊥
-unhelped words word more rest are asks (Run run) named =
-    run_is_no_help (subst IsHelpWord (one_first words word (codes "run") (more ∷ rest) named.behind are named.are) asks)
-unhelped words word more rest are asks (Make make) named =
-    make_is_no_help (subst IsHelpWord (one_first words word (codes "make") (more ∷ rest) named.behind are named.are) asks)
-unhelped words word more rest are asks (Disturb disturb) named =
-    disturb_is_no_help (subst IsHelpWord (one_first words word (codes "disturb") (more ∷ rest) named.behind are named.are) asks)
-unhelped words word more rest are asks (Explain explain) named =
-    explain_is_no_help (subst IsHelpWord (one_first words word (codes "explain") (more ∷ rest) named.behind are named.are) asks)
-unhelped words word more rest are asks Help named = absurd (cc (are, named.are))
-
-pub unexplained : {X : Type 0} (f : X → List ℕ) (words : List X)
-    → ((explain : ExplainCommand) → WritesExplain (behind_first f words) explain → ⊥)
-    → IsFirst f words (codes "explain") → (command : Command) → NameWork (map f words) command → ⊥
-unexplained f words none first (Run run) named =
-    other_letter 0 (codes "run") (codes "explain") (λ (e : 114 ≡ 101). omega (arith, e)) (first (codes "run") named.behind named.are)
-unexplained f words none first (Make make) named =
-    other_letter 0 (codes "make") (codes "explain") (λ (e : 109 ≡ 101). omega (arith, e)) (first (codes "make") named.behind named.are)
-unexplained f words none first (Disturb disturb) named =
-    other_letter 0 (codes "disturb") (codes "explain") (λ (e : 100 ≡ 101). omega (arith, e)) (first (codes "disturb") named.behind named.are)
-unexplained f words none first (Explain explain) named =
-    none explain (subst (λ l. WritesExplain l explain) (moved_behind f words (codes "explain") named.behind named.are) named.write)
-unexplained f words none first Help named =
-    other_than (codes "explain") named.word explain_is_no_help named.asks (first named.word [] named.are)
+-- and where the words behind it write nothing
+pub unwritten : (words rest : List (List ℕ)) (word : List ℕ) (asked : Keyword) → words ≡ word ∷ rest → IsKeyword word asked
+    → ((command : Command) → WritesAs asked rest command → ⊥) → (command : Command) → NameWork words command → ⊥
+unwritten words rest word asked are asks none command named =
+    let first = one_first words named.word word named.behind rest named.are are in
+    let behind : named.behind ≡ rest = ap (λ l. drop 1 l) (sym named.are ∙ are) in
+    let same = one_keyword word named.keyword asked (subst (λ w. IsKeyword w named.keyword) first named.asks) asks in
+    let P : Keyword → Type 0 = λ k. WritesAs k named.behind command in
+    none command (subst (λ l. WritesAs asked l command) behind (subst P same named.writes))
 
 abbrev address_made : List ℕ → EthernetAddress
 address_made bytes = record { 0 = bytes }
@@ -216,10 +143,6 @@ writes_one_make words one other first second =
     let count : one.count ≡ other.count = cc (first.are, second.are, first.count.writes.value, second.count.writes.value) in
     ap₂ make_made seed count
 
-help_against : (words : List (List ℕ)) (key : List ℕ) (rest : List (List ℕ)) → (IsHelpWord key → ⊥) → NameHelp words
-    → words ≡ key ∷ rest → ⊥
-help_against words key rest other help are = other_than key help.word other help.asks (cc (help.are, are))
-
 explain_made : ℕ → ExplainCommand
 explain_made count = record { max_frames = count }
 
@@ -228,10 +151,6 @@ unfolding explain_made
 writes_one_explain words one other first second =
     let count : one.max_frames ≡ other.max_frames = cc (first.are, second.are, first.max.writes.value, second.max.writes.value) in
     ap explain_made count
-
--- words with keys of other letters
-keys_apart : (words : List (List ℕ)) (a b : List ℕ) (xs ys : List (List ℕ)) → (get_or a 0 0 ≡ get_or b 0 0 → ⊥) → words ≡ a ∷ xs → words ≡ b ∷ ys → ⊥
-keys_apart words a b xs ys differ one other = other_letter 0 a b differ (one_first words a b xs ys one other)
 
 disturb_made : RunCommand → ℕ → ℕ → ℕ → DisturbCommand
 disturb_made run seed drop corrupt = record { run = run; fault_seed = seed; drop_chance = drop; corrupt_chance = corrupt }
@@ -242,88 +161,38 @@ same_disturb a w b x c y d z first second third fourth = rw (first, second, thir
 writes_one_disturb : (words : List (List ℕ)) (one other : DisturbCommand) → WritesDisturb words one → WritesDisturb words other → one ≡ other
 unfolding disturb_made
 writes_one_disturb words one other first second =
-    let hardware : one.run.hardware.0 ≡ other.run.hardware.0 = cc (first.are, second.are, first.hardware.bytes, second.hardware.bytes) in
-    let seed : one.run.seed ≡ other.run.seed = cc (first.are, second.are, first.seed.writes.value, second.seed.writes.value) in
-    let count : one.run.max_events ≡ other.run.max_events = cc (first.are, second.are, first.max.writes.value, second.max.writes.value) in
-    let settings : one.run.settings ≡ other.run.settings = first.plain ∙ sym second.plain in
-    let fault : one.fault_seed ≡ other.fault_seed = cc (first.are, second.are, first.fault_seed.writes.value, second.fault_seed.writes.value) in
-    let drop : one.drop_chance ≡ other.drop_chance = cc (first.are, second.are, first.drop.writes.value, second.drop.writes.value) in
-    let corrupt : one.corrupt_chance ≡ other.corrupt_chance = cc (first.are, second.are, first.corrupt.writes.value, second.corrupt.writes.value) in
+    let hardware : one.run.hardware.0 ≡ other.run.hardware.0 = first.hardware.bytes ∙ sym second.hardware.bytes in
     let run : one.run ≡ other.run = same_fields one.run.hardware.0 other.run.hardware.0 one.run.seed other.run.seed
-    one.run.max_events other.run.max_events one.run.settings other.run.settings hardware seed count settings in
+    one.run.max_events other.run.max_events one.run.settings other.run.settings hardware
+    (first.seed.writes.value ∙ sym second.seed.writes.value) (first.max.writes.value ∙ sym second.max.writes.value)
+    (first.plain ∙ sym second.plain) in
     same_disturb one.run other.run one.fault_seed other.fault_seed one.drop_chance other.drop_chance one.corrupt_chance other.corrupt_chance
-    run fault drop corrupt
+    run (first.fault_seed.writes.value ∙ sym second.fault_seed.writes.value) (first.drop.writes.value ∙ sym second.drop.writes.value)
+    (first.corrupt.writes.value ∙ sym second.corrupt.writes.value)
 
 -- words without `live` name one command at most
+writes_same : (asked : Keyword) (words : List (List ℕ)) (one other : Command) → WritesAs asked words one → WritesAs asked words other → one ≡ other
+writes_same keyword.Run words one other (a, is, first) (b, also, second) = is ∙ ap Run (writes_one words a b first second) ∙ sym also
+writes_same keyword.Make words one other (a, is, first) (b, also, second) = is ∙ ap Make (writes_one_make words a b first second) ∙ sym also
+writes_same keyword.Explain words one other (a, is, first) (b, also, second) =
+    is ∙ ap Explain (writes_one_explain words a b first second) ∙ sym also
+writes_same keyword.Help words one other (is, none) (also, nor) = is ∙ sym also
+writes_same keyword.Disturb words one other (a, is, first) (b, also, second) =
+    is ∙ ap Disturb (writes_one_disturb words a b first second) ∙ sym also
+
 pub one_work : (words : List (List ℕ)) (one other : Command) → NameWork words one → NameWork words other → one ≡ other
-one_work words (Run one) (Make other) first second = absurd (cc (first.are, second.are))
-one_work words (Make one) (Run other) first second = absurd (cc (first.are, second.are))
-one_work words (Make one) (Make other) first second =
-    let behind_make : second.behind ≡ first.behind = cc (first.are, second.are) in
-    ap Make (writes_one_make first.behind one other first.write (subst (λ l. WritesMake l other) behind_make second.write))
-one_work words (Run one) (Run other) first second =
-    let behind_run : second.behind ≡ first.behind = cc (first.are, second.are) in
-    ap Run (writes_one first.behind one other first.write (subst (λ l. WritesRun l other) behind_run second.write))
-one_work words (Disturb one) (Disturb other) first second =
-    let behind_disturb : second.behind ≡ first.behind = cc (first.are, second.are) in
-    ap Disturb (writes_one_disturb first.behind one other first.write (subst (λ l. WritesDisturb l other) behind_disturb second.write))
-one_work words (Run one) (Disturb other) first second = absurd (cc (first.are, second.are))
-one_work words (Make one) (Disturb other) first second = absurd (cc (first.are, second.are))
-one_work words (Disturb one) (Run other) first second = absurd (cc (first.are, second.are))
-one_work words (Disturb one) (Make other) first second = absurd (cc (first.are, second.are))
-one_work words Help Help first second = refl
-one_work words (Explain one) (Explain other) first second =
-    let behind_explain : second.behind ≡ first.behind = cc (first.are, second.are) in
-    ap Explain (writes_one_explain first.behind one other first.write (subst (λ l. WritesExplain l other) behind_explain second.write))
-one_work words (Run one) (Explain other) first second =
-    absurd (keys_apart words (codes "run") (codes "explain") first.behind second.behind (λ (e : 114 ≡ 101). omega (arith, e)) first.are second.are)
-one_work words (Make one) (Explain other) first second =
-    absurd (keys_apart words (codes "make") (codes "explain") first.behind second.behind (λ (e : 109 ≡ 101). omega (arith, e)) first.are second.are)
-one_work words (Disturb one) (Explain other) first second =
-    absurd (keys_apart words (codes "disturb") (codes "explain") first.behind second.behind (λ (e : 100 ≡ 101). omega (arith, e)) first.are second.are)
-one_work words (Explain one) (Run other) first second =
-    absurd (keys_apart words (codes "explain") (codes "run") first.behind second.behind (λ (e : 101 ≡ 114). omega (arith, e)) first.are second.are)
-one_work words (Explain one) (Make other) first second =
-    absurd (keys_apart words (codes "explain") (codes "make") first.behind second.behind (λ (e : 101 ≡ 109). omega (arith, e)) first.are second.are)
-one_work words (Explain one) (Disturb other) first second =
-    absurd (keys_apart words (codes "explain") (codes "disturb") first.behind second.behind (λ (e : 101 ≡ 100). omega (arith, e)) first.are second.are)
-one_work words (Explain one) Help first second = absurd (help_against words (codes "explain") first.behind explain_is_no_help second first.are)
-one_work words Help (Explain other) first second = absurd (help_against words (codes "explain") second.behind explain_is_no_help first second.are)
-one_work words (Run one) Help first second = absurd (help_against words (codes "run") first.behind run_is_no_help second first.are)
-one_work words (Make one) Help first second = absurd (help_against words (codes "make") first.behind make_is_no_help second first.are)
-one_work words (Disturb one) Help first second =
-    absurd (help_against words (codes "disturb") first.behind disturb_is_no_help second first.are)
-one_work words Help (Run other) first second = absurd (help_against words (codes "run") second.behind run_is_no_help first second.are)
-one_work words Help (Make other) first second = absurd (help_against words (codes "make") second.behind make_is_no_help first second.are)
-one_work words Help (Disturb other) first second =
-    absurd (help_against words (codes "disturb") second.behind disturb_is_no_help first second.are)
-
-live_is_no_help : IsHelpWord (codes "live") → ⊥
-live_is_no_help =
-    help_key (codes "live") (other_letter 0 (codes "live") (codes "help") (λ (e : 108 ≡ 104). omega (arith, e)))
-    (other_letter 0 (codes "live") (codes "--help") (λ (e : 108 ≡ 45). omega (arith, e)))
-    (other_letter 0 (codes "live") (codes "-h") (λ (e : 108 ≡ 45). omega (arith, e)))
-
-run_is_not_live : codes "run" ≡ codes "live" → ⊥
-run_is_not_live = other_letter 0 (codes "run") (codes "live") (λ (e : 114 ≡ 108). omega (arith, e))
-
-make_is_not_live : codes "make" ≡ codes "live" → ⊥
-make_is_not_live = other_letter 0 (codes "make") (codes "live") (λ (e : 109 ≡ 108). omega (arith, e))
-
-explain_is_not_live : codes "explain" ≡ codes "live" → ⊥
-explain_is_not_live = other_letter 0 (codes "explain") (codes "live") (λ (e : 101 ≡ 108). omega (arith, e))
-
-disturb_is_not_live : codes "disturb" ≡ codes "live" → ⊥
-disturb_is_not_live = other_letter 0 (codes "disturb") (codes "live") (λ (e : 100 ≡ 108). omega (arith, e))
+one_work words one other first second =
+    let word = one_first words second.word first.word second.behind first.behind second.are first.are in
+    let behind : second.behind ≡ first.behind = ap (λ l. drop 1 l) (sym second.are ∙ first.are) in
+    let same = one_keyword first.word second.keyword first.keyword (subst (λ w. IsKeyword w second.keyword) word second.asks) first.asks in
+    let P : Keyword → Type 0 = λ k. WritesAs k second.behind other in
+    writes_same first.keyword first.behind one other first.writes
+    (subst (λ l. WritesAs first.keyword l other) behind (subst P same second.writes))
 
 -- no command without `live` has it for its first word
 pub live_is_no_work : (words rest : List (List ℕ)) (command : Command) → words ≡ codes "live" ∷ rest → NameWork words command → ⊥
-live_is_no_work words rest (Run run) are named = run_is_not_live (one_first words (codes "run") (codes "live") named.behind rest named.are are)
-live_is_no_work words rest (Make make) are named = make_is_not_live (one_first words (codes "make") (codes "live") named.behind rest named.are are)
-live_is_no_work words rest (Disturb disturb) are named = disturb_is_not_live (one_first words (codes "disturb") (codes "live") named.behind rest named.are are)
-live_is_no_work words rest (Explain explain) are named =
-    explain_is_not_live (one_first words (codes "explain") (codes "live") named.behind rest named.are are)
-live_is_no_work words rest Help are named = help_against words (codes "live") rest live_is_no_help named are
+live_is_no_work words rest command are named =
+    live_is_no_keyword named.word named.keyword (one_first words named.word (codes "live") named.behind rest named.are are) named.asks
 
 -- words name one command at most
 pub names_one : NamesOne
@@ -337,15 +206,10 @@ names_one words one other (inr first) (inr second) =
 -- where the words behind `live` name no command that can be
 pub unlive : {X : Type 0} (f : X → List ℕ) (words : List X)
     → ((command : Command) → NameLiveWork (behind_first f words) command → ⊥)
-    → IsFirst f words (codes "live") → IsTaken (map f words) → ⊥
-unlive f words none first (Run run, inl named) = run_is_not_live (first (codes "run") named.behind named.are)
-unlive f words none first (Make make, inl named) = make_is_not_live (first (codes "make") named.behind named.are)
-unlive f words none first (Disturb disturb, inl named) = disturb_is_not_live (first (codes "disturb") named.behind named.are)
-unlive f words none first (Explain explain, inl named) = explain_is_not_live (first (codes "explain") named.behind named.are)
-unlive f words none first (Help, inl named) =
-    other_than (codes "live") named.word live_is_no_help named.asks (first named.word [] named.are)
-unlive f words none first (command, inr named) =
-    none command (subst (λ l. NameLiveWork l command) (moved_behind f words (codes "live") named.behind named.are) named.live)
+    → map f words ≡ codes "live" ∷ behind_first f words → IsTaken (map f words) → ⊥
+unlive f words none are (command, inl named) = live_is_no_work (map f words) (behind_first f words) command are named
+unlive f words none are (command, inr named) =
+    none command (subst (λ l. NameLiveWork l command) (ap (λ l. drop 1 l) (sym named.are ∙ are)) named.live)
 
 -- and where words that do not begin with `live` name none
 pub unplain : {X : Type 0} (f : X → List ℕ) (words : List X) → ((command : Command) → NameWork (map f words) command → ⊥)
@@ -364,34 +228,44 @@ no_work words None asks none = inl refl
 no_work words (Some command) asks (inl none) = absurd (none (command, asks))
 no_work words (Some command) asks (inr help) = inr (ap Some (names_one words command Help asks (inl help)))
 
--- a run that words name relies on nothing more
-pub runnable : {words : List (List ℕ)} {run : RunCommand} → NamesRun words run → IsRunnable run
-runnable {words} {run} named = record {
-  individual = named.write.hardware.individual;
-  mtu = mtu_in_range named.write.setting_words run.settings named.write.settings;
-  some = named.write.max.some;
-  limit = named.write.max.limit;
+-- a run that words write relies on nothing more
+runnable : (words : List (List ℕ)) (run : RunCommand) → WritesRun words run → IsRunnable run
+runnable words run writes = record {
+  individual = writes.hardware.individual;
+  mtu = mtu_in_range writes.setting_words run.settings writes.settings;
+  some = writes.max.some;
+  limit = writes.max.limit;
 }
 
 -- and so one that makes its script
-pub makeable : {words : List (List ℕ)} {make : MakeCommand} → NamesMake words make → IsRunnable (run_of_make make)
-makeable {words} {make} named = record { individual = refl; mtu = tt; some = named.write.count.some; limit = named.write.count.limit }
+makeable : (words : List (List ℕ)) (make : MakeCommand) → WritesMake words make → IsRunnable (run_of_make make)
+makeable words make writes = record { individual = refl; mtu = tt; some = writes.count.some; limit = writes.count.limit }
+
+explainable : (words : List (List ℕ)) (explain : ExplainCommand) → WritesExplain words explain → IsExplainable explain
+explainable words explain writes = record { some = writes.max.some; limit = writes.max.limit }
+
+-- and so one over a bad link
+disturbable : (words : List (List ℕ)) (disturb : DisturbCommand) → WritesDisturb words disturb → IsDisturbable disturb
+disturbable words disturb writes = record {
+  run = record {
+    individual = writes.hardware.individual;
+    mtu = subst (λ (s : RunSettings). IfSome s.ip_mtu (λ bytes. (576 ≤ bytes) × (bytes ≤ 1500))) (sym writes.plain) tt;
+    some = writes.max.some;
+    limit = writes.max.limit;
+  };
+  drop = writes.drop.limit;
+  corrupt = writes.corrupt.limit;
+}
+
+written_command : (asked : Keyword) (words : List (List ℕ)) (command : Command) → WritesAs asked words command → IsCommand command
+written_command keyword.Run words command (run, is, writes) = subst IsCommand (sym is) (runnable words run writes)
+written_command keyword.Make words command (make, is, writes) = subst IsCommand (sym is) (makeable words make writes)
+written_command keyword.Explain words command (explain, is, writes) = subst IsCommand (sym is) (explainable words explain writes)
+written_command keyword.Help words command (is, none) = subst IsCommand (sym is) tt
+written_command keyword.Disturb words command (disturb, is, writes) = subst IsCommand (sym is) (disturbable words disturb writes)
 
 work_command : (words : List (List ℕ)) (command : Command) → NameWork words command → IsCommand command
-work_command words (Run run) named = runnable named
-work_command words (Make make) named = makeable named
-work_command words (Explain explain) named = record { some = named.write.max.some; limit = named.write.max.limit }
-work_command words Help named = tt
-work_command words (Disturb disturb) named = record {
-  run = record {
-    individual = named.write.hardware.individual;
-    mtu = subst (λ (s : RunSettings). IfSome s.ip_mtu (λ bytes. (576 ≤ bytes) × (bytes ≤ 1500))) (sym named.write.plain) tt;
-    some = named.write.max.some;
-    limit = named.write.max.limit;
-  };
-  drop = named.write.drop.limit;
-  corrupt = named.write.corrupt.limit;
-}
+work_command words command named = written_command named.keyword named.behind command named.writes
 
 named_command : (words : List (List ℕ)) (command : Command) → Names words command → IsCommand command
 named_command words command (inl named) = work_command words command named

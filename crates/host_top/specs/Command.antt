@@ -5,10 +5,14 @@ use Rattle.host_top.specs.declared.command.Command.{Command}
 use Rattle.host_top.specs.declared.command.Command.TheVariants.{Run, Make, Explain, Help, Disturb}
 use Rattle.host_top.specs.declared.command.Keyword.{Keyword}
 use Rattle.host_top.specs.declared.command.Keyword.TheVariants as keyword
-use Rattle.host_top.specs.Disturb.{NamesDisturb, IsDisturbable}
-use Rattle.host_top.specs.Explain.{NamesExplain, IsExplainable}
-use Rattle.host_top.specs.MakeWords.{NamesMake, run_of_make}
-use Rattle.host_top.specs.RunWords.{NamesRun, IsRunnable}
+use Rattle.host_top.specs.declared.command.MakeCommand.{MakeCommand}
+use Rattle.host_top.specs.declared.command.RunCommand.{RunCommand}
+use Rattle.host_top.specs.declared.disturb_command.DisturbCommand.{DisturbCommand}
+use Rattle.host_top.specs.declared.explain_command.ExplainCommand.{ExplainCommand}
+use Rattle.host_top.specs.Disturb.{WritesDisturb, IsDisturbable}
+use Rattle.host_top.specs.Explain.{WritesExplain, IsExplainable}
+use Rattle.host_top.specs.MakeWords.{WritesMake, run_of_make}
+use Rattle.host_top.specs.RunWords.{WritesRun, IsRunnable}
 
 -- a word that asks how the program is used
 abbrev pub IsHelpWord : List ℕ → Type 0
@@ -22,19 +26,22 @@ IsKeyword word keyword.Explain = word ≡ codes "explain"
 IsKeyword word keyword.Help = IsHelpWord word
 IsKeyword word keyword.Disturb = word ≡ codes "disturb"
 
--- a word that asks how the program is used stands alone
-pub record NameHelp (words : List (List ℕ)) : Type 0 where
-  pub word : List ℕ
-  pub are : words ≡ word ∷ []
-  pub asks : IsHelpWord word
+-- what the words behind the first one say that the command is, by what the first one asks for
+abbrev pub WritesAs : Keyword → List (List ℕ) → Command → Type 0
+WritesAs keyword.Run words command = (run : RunCommand) × (command ≡ Run run) × WritesRun words run
+WritesAs keyword.Make words command = (make : MakeCommand) × (command ≡ Make make) × WritesMake words make
+WritesAs keyword.Explain words command = (explain : ExplainCommand) × (command ≡ Explain explain) × WritesExplain words explain
+WritesAs keyword.Help words command = (command ≡ Help) × (words ≡ [])
+WritesAs keyword.Disturb words command = (disturb : DisturbCommand) × (command ≡ Disturb disturb) × WritesDisturb words disturb
 
 -- the words name the command
-abbrev pub NameWork : List (List ℕ) → Command → Type 0
-NameWork words (Run run) = NamesRun words run
-NameWork words (Make make) = NamesMake words make
-NameWork words (Explain explain) = NamesExplain words explain
-NameWork words Help = NameHelp words
-NameWork words (Disturb disturb) = NamesDisturb words disturb
+pub record NameWork (words : List (List ℕ)) (command : Command) : Type 0 where
+  pub keyword : Keyword
+  pub word : List ℕ
+  pub behind : List (List ℕ)
+  pub are : words ≡ word ∷ behind
+  pub asks : IsKeyword word keyword
+  pub writes : WritesAs keyword behind command
 
 -- the commands whose rows can be printed as they come
 abbrev pub CanBeLive : Command → Type 0

@@ -1,5 +1,5 @@
 -- The words that name a run over a bad link, and what that leaves.
-use Rattle.std.specs.Prelude.{◌≡◌, ℕ, ◌≤◌, List, [], ◌∷◌, codes}
+use Rattle.std.specs.Prelude.{◌≡◌, ℕ, ◌≤◌, List, length}
 use Rattle.host_disturb.specs.declared.fault_values.FaultValues.{FaultValues}
 use Rattle.host_disturb.specs.Disturbed.{disturbed}
 use Rattle.net_host.specs.declared.report.Row.{Row}
@@ -10,7 +10,7 @@ use Rattle.host_top.specs.declared.ending.Ending.{Ending}
 use Rattle.host_top.specs.RunWords.{IsCountWord, IsRunnable, no_settings, settings_named}
 use Rattle.host_top.specs.Generator.{event_words}
 use Rattle.host_top.specs.Ran.{RanAs}
-use Rattle.host_top.specs.Word.{IsNumberWord, IsU32Word, IsAddressWord}
+use Rattle.host_top.specs.Word.{IsNumberWord, IsU32Word, IsAddressWord, argument_at}
 
 -- one to three decimal digits, at most 100
 pub record IsChanceWord (word : List ℕ) (chance : ℕ) : Type 0 where
@@ -19,26 +19,14 @@ pub record IsChanceWord (word : List ℕ) (chance : ℕ) : Type 0 where
 
 -- the words are a hardware address, a seed, the most events, the seed of the faults and two chances
 pub record WritesDisturb (words : List (List ℕ)) (disturb : DisturbCommand) : Type 0 where
-  pub hardware_word : List ℕ
-  pub seed_word : List ℕ
-  pub max_word : List ℕ
-  pub fault_word : List ℕ
-  pub drop_word : List ℕ
-  pub corrupt_word : List ℕ
-  pub are : words ≡ hardware_word ∷ seed_word ∷ max_word ∷ fault_word ∷ drop_word ∷ corrupt_word ∷ []
-  pub hardware : IsAddressWord hardware_word disturb.run.hardware
-  pub seed : IsU32Word seed_word disturb.run.seed
-  pub max : IsCountWord max_word disturb.run.max_events
+  pub six : length words ≡ 6
+  pub hardware : IsAddressWord (argument_at words 0) disturb.run.hardware
+  pub seed : IsU32Word (argument_at words 1) disturb.run.seed
+  pub max : IsCountWord (argument_at words 2) disturb.run.max_events
   pub plain : disturb.run.settings ≡ no_settings
-  pub fault_seed : IsU32Word fault_word disturb.fault_seed
-  pub drop : IsChanceWord drop_word disturb.drop_chance
-  pub corrupt : IsChanceWord corrupt_word disturb.corrupt_chance
-
--- the words are `disturb` and those that write the run
-pub record NamesDisturb (words : List (List ℕ)) (disturb : DisturbCommand) : Type 0 where
-  pub behind : List (List ℕ)
-  pub are : words ≡ codes "disturb" ∷ behind
-  pub write : WritesDisturb behind disturb
+  pub fault_seed : IsU32Word (argument_at words 3) disturb.fault_seed
+  pub drop : IsChanceWord (argument_at words 4) disturb.drop_chance
+  pub corrupt : IsChanceWord (argument_at words 5) disturb.corrupt_chance
 
 -- no size limit and no rate
 abbrev pub faults_named : DisturbCommand → FaultValues

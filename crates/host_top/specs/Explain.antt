@@ -1,5 +1,5 @@
 -- The words that name an explanation of a capture, and what that leaves.
-use Rattle.std.specs.Prelude.{◌≡◌, ℕ, ◌≤◌, List, [], ◌∷◌, Option, Result, Ok, Err, OnOk, IfErr, codes}
+use Rattle.std.specs.Prelude.{◌≡◌, ℕ, ◌≤◌, List, [], ◌∷◌, Option, Result, Ok, Err, OnOk, IfErr}
 use Rattle.capture_explain.specs.declared.error.ExplainError.{ExplainError}
 use Rattle.capture_explain.specs.declared.error.ExplainError.TheVariants as error
 use Rattle.capture_explain.specs.declared.explanation.ExplainRow.{ExplainRow}
@@ -20,12 +20,6 @@ pub record WritesExplain (words : List (List ℕ)) (explain : ExplainCommand) : 
   pub max_word : List ℕ
   pub are : words ≡ max_word ∷ []
   pub max : IsFrameCountWord max_word explain.max_frames
-
--- the words are `explain` and that one
-pub record NamesExplain (words : List (List ℕ)) (explain : ExplainCommand) : Type 0 where
-  pub behind : List (List ℕ)
-  pub are : words ≡ codes "explain" ∷ behind
-  pub write : WritesExplain behind explain
 
 -- what it relies on
 pub record IsExplainable (explain : ExplainCommand) : Type 0 where

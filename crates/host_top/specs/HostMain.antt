@@ -18,13 +18,13 @@ use Rattle.host_top.specs.declared.command.RunCommand.{RunCommand}
 use Rattle.host_top.specs.declared.ending.Ending.{Ending}
 use Rattle.host_top.specs.declared.ending.Ending.TheVariants.{Done, Refused}
 use Rattle.host_top.specs.declared.ending.Finish.{Finish}
-use Rattle.host_top.specs.Command.{Names, NameHelp, IsTaken}
-use Rattle.host_top.specs.MakeWords.{NamesMake, run_of_make}
+use Rattle.host_top.specs.Command.{Names, NameWork, IsTaken}
+use Rattle.host_top.specs.MakeWords.{run_of_make}
 use Rattle.host_top.specs.declared.disturb_command.DisturbCommand.{DisturbCommand}
 use Rattle.host_top.specs.declared.explain_command.ExplainCommand.{ExplainCommand}
 use Rattle.host_top.specs.Disturb.{DisturbedTo, task_disturbed}
 use Rattle.host_top.specs.Ending.{last_line}
-use Rattle.host_top.specs.Explain.{NamesExplain, ExplainsAs}
+use Rattle.host_top.specs.Explain.{ExplainsAs}
 use Rattle.host_top.specs.Making.{IsLeftByMade, IsEndingOfMade}
 use Rattle.host_top.specs.Printing.{summed_up}
 use Rattle.host_top.specs.Ran.{task_named, RanTo}
@@ -147,12 +147,12 @@ Ask words (Some command) = Names words command
 
 -- the words ask for a script that is made
 abbrev pub AskToMake : List (List ℕ) → Type 0
-AskToMake words = (make : MakeCommand) × NamesMake words make
+AskToMake words = (make : MakeCommand) × NameWork words (Make make)
 
 -- the words ask for an explanation of a capture
 abbrev pub AskToExplain : List (List ℕ) → Type 0
-AskToExplain words = (explain : ExplainCommand) × NamesExplain words explain
+AskToExplain words = (explain : ExplainCommand) × NameWork words (Explain explain)
 
 -- the words name no command, or ask how the program is used
 abbrev pub AskForNoWork : List (List ℕ) → Type 0
-AskForNoWork words = (IsTaken words → ⊥) ⊎ NameHelp words
+AskForNoWork words = (IsTaken words → ⊥) ⊎ NameWork words Help

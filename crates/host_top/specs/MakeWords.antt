@@ -1,5 +1,5 @@
 -- The words of a script that is made, and what they name.
-use Rattle.std.specs.Prelude.{◌≡◌, ℕ, List, [], ◌∷◌, codes}
+use Rattle.std.specs.Prelude.{◌≡◌, ℕ, List, [], ◌∷◌}
 use Rattle.made_script.specs.Server.{host_station}
 use Rattle.host_top.specs.declared.command.MakeCommand.{MakeCommand}
 use Rattle.host_top.specs.declared.command.RunCommand.{RunCommand}
@@ -13,12 +13,6 @@ pub record WritesMake (words : List (List ℕ)) (make : MakeCommand) : Type 0 wh
   pub are : words ≡ seed_word ∷ count_word ∷ []
   pub seed : IsU32Word seed_word make.seed
   pub count : IsCountWord count_word make.count
-
--- the words are `make` and those that write what is made
-pub record NamesMake (words : List (List ℕ)) (make : MakeCommand) : Type 0 where
-  pub behind : List (List ℕ)
-  pub are : words ≡ codes "make" ∷ behind
-  pub write : WritesMake behind make
 
 -- the run of a script that is made: of the host that the script is for, without settings
 abbrev pub run_of_make : MakeCommand → RunCommand

@@ -1,5 +1,5 @@
 -- The words of a run, and what they name.
-use Rattle.std.specs.Prelude.{◌≡◌, ℕ, ◌*◌, ◌≤◌, false, List, ◌∷◌, None, IfSome, codes, option_map, unwrap_or}
+use Rattle.std.specs.Prelude.{◌≡◌, ℕ, ◌*◌, ◌≤◌, false, List, ◌∷◌, None, IfSome, option_map, unwrap_or}
 use Rattle.net_wire.specs.Arrival.{is_group}
 use Rattle.host_model.specs.Settings.{Settings}
 use Rattle.net_host.specs.Config.{default_host}
@@ -25,12 +25,6 @@ pub record WritesRun (words : List (List ℕ)) (run : RunCommand) : Type 0 where
   pub seed : IsU32Word seed_word run.seed
   pub max : IsCountWord max_word run.max_events
   pub settings : Sets setting_words run.settings
-
--- the words are `run` and those that write the run
-pub record NamesRun (words : List (List ℕ)) (run : RunCommand) : Type 0 where
-  pub behind : List (List ℕ)
-  pub are : words ≡ codes "run" ∷ behind
-  pub write : WritesRun behind run
 
 -- no word sets anything
 abbrev pub no_settings : RunSettings

@@ -1,9 +1,13 @@
 -- What one word writes. A word is seen as its bytes.
-use Rattle.std.specs.Prelude.{◌≡◌, ℕ, ◌^◌, ◌<◌, ◌≤◌, false, List, length, drop}
+use Rattle.std.specs.Prelude.{◌≡◌, ℕ, ◌^◌, ◌<◌, ◌≤◌, false, List, [], length, drop, slice_index_or}
 use Rattle.std.specs.Int.{to_be_bytes, w64}
 use Rattle.std.specs.Str.Parse.{IsNumeral, digits_value}
 use Rattle.net_wire.specs.Arrival.{is_group}
 use Rattle.net_wire.specs.declared.address.EthernetAddress.{EthernetAddress}
+
+-- the word at a place, from 0
+abbrev pub argument_at : List (List ℕ) → ℕ → List ℕ
+argument_at words place = slice_index_or words place []
 
 -- the word is one to `most_digits` digits and nothing else, which write the number
 pub record IsNumberWord (radix most_digits : ℕ) (word : List ℕ) (number : ℕ) : Type 0 where

@@ -265,6 +265,8 @@ impl<'a> Server<'a> {
         requires later { self.old.last ≤ micros_of now }
         ensures value { Answers (micros_of now) (message_of message.now) result self.old self.new }
         ensures fair { IsFair self.new }
+        ensures alone { (address : Ipv4Address) → given result ≡ Some address → (other : EthernetAddress)
+            → holding self.new.holders other (micros_of now) ≡ Some address → message.now.client_hardware_address ≡ other }
     {
         let _ = &self.values;
         let at = micros_of(now);

@@ -1,5 +1,5 @@
 use Rattle.std.specs.String.{string_bytes}
-use Rattle.host_top.proofs.CommandLemmas.{is_first, opened, opened_as, undisturbed, unexplained, unmade, unworded, unwritten}
+use Rattle.host_top.proofs.CommandLemmas.{opened, unworded, unwritten}
 use Rattle.host_top.proofs.command.command_of.Goals as goal
 
 pub returns-in_err-keyword-clause-refuses : goal.returns-in_err-keyword-clause-refuses
@@ -10,28 +10,32 @@ returns-in_err-keyword-clause-refuses c =
 
 pub returns-in_err-run_of-in-Run-clause-refuses : goal.returns-in_err-run_of-in-Run-clause-refuses
 returns-in_err-run_of-in-Run-clause-refuses c =
-    let are = opened_as string_bytes c.args.words.now c.name-item.result c.as_bytes.result.now _ c.in-len1-up.len_at_least c.name-item.is
-    c.as_bytes.ensures.value (rw c.in-Run.is at c.in_ok-keyword.ensures.found) in
+    let are = opened string_bytes c.args.words.now c.name-item.result c.as_bytes.result.now c.in-len1-up.len_at_least c.name-item.is
+    c.as_bytes.ensures.value in
     rw c.from_residual-in_err-run_of-in-Run.ensures
-    (unwritten string_bytes c.args.words.now c.in_err-run_of-in-Run.ensures.refuses (is_first string_bytes c.args.words.now _ _ are))
+    (unwritten _ _ c.as_bytes.result.now _ are (rw c.in-Run.is at c.in_ok-keyword.ensures.found)
+    (λ command written. c.in_err-run_of-in-Run.ensures.refuses written.0 written.1.1))
 
 pub returns-in_err-make_of-in-Make-clause-refuses : goal.returns-in_err-make_of-in-Make-clause-refuses
 returns-in_err-make_of-in-Make-clause-refuses c =
-    let are = opened_as string_bytes c.args.words.now c.name-item.result c.as_bytes.result.now _ c.in-len1-up.len_at_least c.name-item.is
-    c.as_bytes.ensures.value (rw c.in-Make.is at c.in_ok-keyword.ensures.found) in
+    let are = opened string_bytes c.args.words.now c.name-item.result c.as_bytes.result.now c.in-len1-up.len_at_least c.name-item.is
+    c.as_bytes.ensures.value in
     rw c.from_residual-in_err-make_of-in-Make.ensures
-    (unmade string_bytes c.args.words.now c.in_err-make_of-in-Make.ensures.refuses (is_first string_bytes c.args.words.now _ _ are))
-
-pub returns-in_err-disturb_of-in-Disturb-clause-refuses : goal.returns-in_err-disturb_of-in-Disturb-clause-refuses
-returns-in_err-disturb_of-in-Disturb-clause-refuses c =
-    let are = opened_as string_bytes c.args.words.now c.name-item.result c.as_bytes.result.now _ c.in-len1-up.len_at_least c.name-item.is
-    c.as_bytes.ensures.value (rw c.in-Disturb.is at c.in_ok-keyword.ensures.found) in
-    rw c.from_residual-in_err-disturb_of-in-Disturb.ensures
-    (undisturbed string_bytes c.args.words.now c.in_err-disturb_of-in-Disturb.ensures.refuses (is_first string_bytes c.args.words.now _ _ are))
+    (unwritten _ _ c.as_bytes.result.now _ are (rw c.in-Make.is at c.in_ok-keyword.ensures.found)
+    (λ command written. c.in_err-make_of-in-Make.ensures.refuses written.0 written.1.1))
 
 pub returns-in_err-explain_of-in-Explain-clause-refuses : goal.returns-in_err-explain_of-in-Explain-clause-refuses
 returns-in_err-explain_of-in-Explain-clause-refuses c =
-    let are = opened_as string_bytes c.args.words.now c.name-item.result c.as_bytes.result.now _ c.in-len1-up.len_at_least c.name-item.is
-    c.as_bytes.ensures.value (rw c.in-Explain.is at c.in_ok-keyword.ensures.found) in
+    let are = opened string_bytes c.args.words.now c.name-item.result c.as_bytes.result.now c.in-len1-up.len_at_least c.name-item.is
+    c.as_bytes.ensures.value in
     rw c.from_residual-in_err-explain_of-in-Explain.ensures
-    (unexplained string_bytes c.args.words.now c.in_err-explain_of-in-Explain.ensures.refuses (is_first string_bytes c.args.words.now _ _ are))
+    (unwritten _ _ c.as_bytes.result.now _ are (rw c.in-Explain.is at c.in_ok-keyword.ensures.found)
+    (λ command written. c.in_err-explain_of-in-Explain.ensures.refuses written.0 written.1.1))
+
+pub returns-in_err-disturb_of-in-Disturb-clause-refuses : goal.returns-in_err-disturb_of-in-Disturb-clause-refuses
+returns-in_err-disturb_of-in-Disturb-clause-refuses c =
+    let are = opened string_bytes c.args.words.now c.name-item.result c.as_bytes.result.now c.in-len1-up.len_at_least c.name-item.is
+    c.as_bytes.ensures.value in
+    rw c.from_residual-in_err-disturb_of-in-Disturb.ensures
+    (unwritten _ _ c.as_bytes.result.now _ are (rw c.in-Disturb.is at c.in_ok-keyword.ensures.found)
+    (λ command written. c.in_err-disturb_of-in-Disturb.ensures.refuses written.0 written.1.1))

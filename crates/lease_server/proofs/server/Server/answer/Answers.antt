@@ -1,11 +1,11 @@
-use Rattle.std.proofs.Common.{◌≡◌, ℕ, sym, ap, None, subst, refl}
+use Rattle.std.proofs.Common.{◌≡◌, ℕ, sym, ap, None, subst, refl, arith}
 use Rattle.managed.specs.SortedMap.{pairs}
 use Rattle.managed.specs.SlotMap.{elements_of, places_of}
 use Rattle.net_wire.specs.DhcpMessage.{message_of}
 use Rattle.lease_server.specs.Inside.{state_inside}
 use Rattle.lease_server.specs.Holders.{CanHold}
 use Rattle.lease_server.specs.Replies.{reply_to}
-use Rattle.lease_server.specs.State.{Answers, ServerState, holding, is_taken}
+use Rattle.lease_server.specs.State.{Answers, ServerState, holding, is_taken, micros_of}
 use Rattle.lease_server.specs.Values.{values_of, refused}
 use Rattle.lease_server.proofs.AnswerLemmas.{answers_with}
 use Rattle.lease_server.proofs.GiveLemmas.{can_give, is_fair}
@@ -37,3 +37,11 @@ pub returns-clause-fair : goal.returns-clause-fair
 returns-clause-fair c =
     let left = c.self-2.inside in
     is_fair (values_of left.values) (pairs left.clients) (elements_of left.leases) (places_of left.leases) c.self-2.invariant.holders c.micros_of-at.result
+
+pub returns-clause-alone : goal.returns-clause-alone
+returns-clause-alone c = λ address gives other its.
+    let left = c.self-2.inside in
+    let fair = is_fair (values_of left.values) (pairs left.clients) (elements_of left.leases) (places_of left.leases) c.self-2.invariant.holders
+    c.micros_of-at.result in
+    fair.alone c.args.message.now.client_hardware_address other (micros_of c.args.now) address address
+    (omega (arith, c.micros_of-at.ensures)) ((returns-clause-value c).gives address gives) its refl
