@@ -2,13 +2,12 @@
 use Rattle.std.proofs.Common.{◌≡◌, ℕ, ◌<◌, inl, inr, ◌⊎◌, List, [], ◌++◌, length, Option, Some, None, IfSome, IfErr, Result, Ok, Err, ap, sym, subst, ◌∙◌, refl, arith, append_assoc, append-nil, length-append}
 use Rattle.std.specs.Io.KnownBytes.{Consumes}
 use Rattle.wire_base.specs.Causes.{IsRisen}
-use Rattle.capture_explain.specs.Capture.{HasNoHeader, BeginsNoEntry, IsBrokenAt, IsOverLimit}
+use Rattle.capture_explain.specs.Capture.{CaptureEntry, HasNoHeader, BeginsNoEntry, IsBrokenAt, IsOverLimit}
 use Rattle.capture_explain.specs.Places.{IsInside, IsWrongLength}
 use Rattle.capture_explain.specs.Reading.{CutsHeader, EndsHeader, EndsEntry}
-use Rattle.capture_explain.specs.Explained.{Taken, Leaves, HasCause, Completes}
+use Rattle.capture_explain.specs.Explained.{Taken, Stops, HasCause, Completes}
 use Rattle.capture_explain.specs.declared.error.ExplainError.{ExplainError}
 use Rattle.capture_explain.specs.declared.error.ExplainError.TheVariants.{Header, Entry, Limit, Read, NoMemory}
-use Rattle.capture_explain.specs.declared.explanation.ExplainRow.{ExplainRow}
 use Rattle.capture_explain.proofs.CaptureLemmas.{has_header, not_broken, not_over}
 use Rattle.capture_explain.proofs.PlaceLemmas.{wrong_header, cut_header, wrong_length, cut_entry}
 
@@ -29,12 +28,12 @@ no_entry part more (inr inside) =
     let all : part ++ more ≡ part = ap (λ l. part ++ l) inside.1 ∙ append-nil part in
     subst BeginsNoEntry (sym all) (cut_entry part inside.0)
 
-broken : (max offset : ℕ) (left_old left_new : Option (List ℕ)) (rows : List ExplainRow) (taken : Taken max left_old left_new rows)
+broken : (max offset : ℕ) (left_old left_new : Option (List ℕ)) (Tells : List CaptureEntry → Type 0) (taken : Taken max left_old left_new Tells)
     → length taken.entries < max → offset ≡ length taken.front → EndsEntry (Entry offset) left_new taken.part
     → IfSome left_old (λ bytes. IsBrokenAt max bytes offset)
-broken max offset None left_new rows taken few place ends = tt
-broken max offset (Some bytes) None rows taken few place ends = absurd taken.took
-broken max offset (Some bytes) (Some more) rows taken few place ends = record {
+broken max offset None left_new Tells taken few place ends = tt
+broken max offset (Some bytes) None Tells taken few place ends = absurd taken.took
+broken max offset (Some bytes) (Some more) Tells taken few place ends = record {
   entries = taken.entries;
   front = taken.front;
   more = taken.part ++ more;
@@ -46,11 +45,11 @@ broken max offset (Some bytes) (Some more) rows taken few place ends = record {
   no_entry = no_entry taken.part more ends.1;
 }
 
-over : (max : ℕ) (left_old left_new : Option (List ℕ)) (rows : List ExplainRow) (taken : Taken max left_old left_new rows)
+over : (max : ℕ) (left_old left_new : Option (List ℕ)) (Tells : List CaptureEntry → Type 0) (taken : Taken max left_old left_new Tells)
     → length taken.entries ≡ max → EndsEntry Limit left_new taken.part → IfSome left_old (IsOverLimit max)
-over max None left_new rows taken full ends = tt
-over max (Some bytes) None rows taken full ends = absurd taken.took
-over max (Some bytes) (Some more) rows taken full ends = record {
+over max None left_new Tells taken full ends = tt
+over max (Some bytes) None Tells taken full ends = absurd taken.took
+over max (Some bytes) (Some more) Tells taken full ends = record {
   entries = taken.entries;
   front = taken.front;
   more = taken.part ++ more;
@@ -66,16 +65,16 @@ pub record Counts (error : ExplainError) (before after : ℕ) : Type 0 where
   pub risen : error ≡ Read → IsRisen before after
 
 -- the cause of what was left
-pub leaves_cause : (max : ℕ) (left_old left_new : Option (List ℕ)) (rows : List ExplainRow) (before after : ℕ) (error : ExplainError)
-    → Leaves max left_old left_new rows error → Counts error before after → HasCause max left_old before after error
-leaves_cause max left_old left_new rows before after Header leaves counts =
+pub leaves_cause : (max : ℕ) (left_old left_new : Option (List ℕ)) (Tells : List CaptureEntry → Type 0) (before after : ℕ) (error : ExplainError)
+    → Stops max left_old left_new Tells error → Counts error before after → HasCause max left_old before after error
+leaves_cause max left_old left_new Tells before after Header leaves counts =
     (no_header left_old left_new leaves.cuts.part leaves.cuts.took leaves.cuts.ends, counts.quiet (λ is. cc))
-leaves_cause max left_old left_new rows before after (Entry offset) leaves counts =
-    (broken max offset left_old left_new rows leaves.taken leaves.ends.0 leaves.ends.1 leaves.ends.2, counts.quiet (λ is. cc))
-leaves_cause max left_old left_new rows before after Limit leaves counts =
-    (over max left_old left_new rows leaves.taken leaves.ends.0 leaves.ends.1, counts.quiet (λ is. cc))
-leaves_cause max left_old left_new rows before after Read leaves counts = counts.risen refl
-leaves_cause max left_old left_new rows before after NoMemory leaves counts = counts.quiet (λ is. cc)
+leaves_cause max left_old left_new Tells before after (Entry offset) leaves counts =
+    (broken max offset left_old left_new Tells leaves.taken leaves.ends.0 leaves.ends.1 leaves.ends.2, counts.quiet (λ is. cc))
+leaves_cause max left_old left_new Tells before after Limit leaves counts =
+    (over max left_old left_new Tells leaves.taken leaves.ends.0 leaves.ends.1, counts.quiet (λ is. cc))
+leaves_cause max left_old left_new Tells before after Read leaves counts = counts.risen refl
+leaves_cause max left_old left_new Tells before after NoMemory leaves counts = counts.quiet (λ is. cc)
 
 by_left : (max : ℕ) (left : Option (List ℕ)) (before after : ℕ) (result : Result (Unit {0}) ExplainError)
     → IfErr result (HasCause max left before after) → Completes max left before after result
@@ -94,10 +93,10 @@ pub completes : (max : ℕ) (left : Option (List ℕ)) (before after : ℕ) (res
 completes max left before after result cause = by_left max left before after result cause
 
 -- where no header was read
-pub header_leaves : (max : ℕ) (left_old left_new : Option (List ℕ)) (rows : List ExplainRow) (error : ExplainError) → rows ≡ []
-    → CutsHeader error left_old left_new → Leaves max left_old left_new rows error
-header_leaves max left_old left_new rows Header empty cuts = record { none = empty; cuts = cuts }
-header_leaves max left_old left_new rows (Entry offset) empty cuts = absurd cuts.ends
-header_leaves max left_old left_new rows Limit empty cuts = absurd cuts.ends
-header_leaves max left_old left_new rows Read empty cuts = inl (record { none = empty; cuts = cuts })
-header_leaves max left_old left_new rows NoMemory empty cuts = absurd cuts.ends
+pub header_leaves : (max : ℕ) (left_old left_new : Option (List ℕ)) (Tells : List CaptureEntry → Type 0) (error : ExplainError) → Tells []
+    → CutsHeader error left_old left_new → Stops max left_old left_new Tells error
+header_leaves max left_old left_new Tells Header none cuts = record { none = none; cuts = cuts }
+header_leaves max left_old left_new Tells (Entry offset) none cuts = absurd cuts.ends
+header_leaves max left_old left_new Tells Limit none cuts = absurd cuts.ends
+header_leaves max left_old left_new Tells Read none cuts = inl (record { none = none; cuts = cuts })
+header_leaves max left_old left_new Tells NoMemory none cuts = absurd cuts.ends

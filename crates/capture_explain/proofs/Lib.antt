@@ -3,6 +3,7 @@ pub mod CauseLemmas
 pub mod DissectionLemmas
 pub mod LayerLemmas
 pub mod PlaceLemmas
+pub mod PrintLemmas
 pub mod ProgressLemmas
 pub mod ReadingLemmas
 pub mod OneFileLemmas

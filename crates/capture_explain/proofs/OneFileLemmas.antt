@@ -1,10 +1,7 @@
 -- Some bytes are one file, and its entries have one list of rows.
-use Rattle.std.proofs.Common.{◌≡◌, ℕ, ◌^◌, ◌<◌, ◌≤◌, ◌⊎◌, inl, inr, Bool, true, false, List, [], ◌∷◌, ◌++◌, length, take, drop, Option, ap, ap₂, sym, subst, ◌∙◌, refl, arith, append_assoc}
+use Rattle.std.proofs.Common.{◌≡◌, ℕ, ◌<◌, ◌≤◌, ◌⊎◌, inl, inr, Bool, true, false, List, [], ◌∷◌, length, Option, ap, ap₂, sym, subst, ◌∙◌, refl, arith}
 use Rattle.std.specs.Prelude.{◌↔◌, IsTrue}
-use Rattle.std.specs.Int.{from_le_bytes, w32}
-use Rattle.std.proofs.lemmas.Nat.{from_le_bytes-to_le_bytes_4}
 use Rattle.std.proofs.lemmas.Bool.{cases_lt}
-use Rattle.std.proofs.Math.Seq.{take-append_seam}
 use Rattle.ether_link.specs.declared.err.layers.Layer.{Layer}
 use Rattle.ether_link.specs.declared.layout.PartKind.TheVariants.{Ethernet2}
 use Rattle.ether_link.specs.declared.layout.Place.{Place}
@@ -16,7 +13,7 @@ use Rattle.ether_lax.specs.Found.{parts_of}
 use Rattle.ether_lax.specs.Notes.{stop_layer}
 use Rattle.ether_lax.specs.Sliced.{net_of}
 use Rattle.ether_lax.specs.Steps.{begins_with}
-use Rattle.capture_explain.specs.Capture.{CaptureEntry, entry_head, entry_bytes, IsEntry, AreEntries, entries_bytes, IsCaptureFile}
+use Rattle.capture_explain.specs.Capture.{CaptureEntry, AreEntries, entries_bytes, IsCaptureFile}
 use Rattle.capture_explain.specs.Dissected.{Agrees, IsDissection}
 use Rattle.capture_explain.specs.Laws.{AreOneFile}
 use Rattle.capture_explain.specs.Parts.{parts_at, ah_at, esp_by}
@@ -26,40 +23,7 @@ use Rattle.capture_explain.specs.declared.parts.AhPart.{AhPart}
 use Rattle.capture_explain.specs.declared.parts.EspPart.{EspPart}
 use Rattle.capture_explain.specs.declared.parts.Part.{Part}
 use Rattle.capture_explain.specs.declared.explanation.ExplainRow.{ExplainRow}
-use Rattle.capture_explain.proofs.CaptureLemmas.{header_length, same_captured, same_behind, same_rest, one_rest}
-
--- the number at a place of the same bytes
-same_number : (at a b : ℕ) (one other : List ℕ) → a < 2 ^ 32 → b < 2 ^ 32 → one ≡ other
-    → from_le_bytes w32 (take 4 (drop at one)) ≡ a → from_le_bytes w32 (take 4 (drop at other)) ≡ b → a ≡ b
-same_number at a b one other fits also same is_a is_b = sym is_a ∙ ap (λ l. from_le_bytes w32 (take 4 (drop at l))) same ∙ is_b
-
--- two entries that begin the same bytes are one
-one_entry : (entry other : CaptureEntry) (rest more : List ℕ) → IsEntry entry → IsEntry other
-    → entry_bytes entry ++ rest ≡ entry_bytes other ++ more → entry ≡ other
-one_entry entry other rest more fits also same =
-    let head = entry_head entry.secs entry.micros (length entry.frame) entry.told in
-    let heads = entry_head other.secs other.micros (length other.frame) other.told in
-    let all : head ++ (entry.frame ++ rest) ≡ heads ++ (other.frame ++ more) =
-    sym (append_assoc head entry.frame rest) ∙ same ∙ append_assoc heads other.frame more in
-    let secs_are : entry.secs ≡ other.secs = same_number 0 entry.secs other.secs _ _ fits.secs_fit also.secs_fit all
-    (from_le_bytes-to_le_bytes_4 entry.secs fits.secs_fit) (from_le_bytes-to_le_bytes_4 other.secs also.secs_fit) in
-    let micros_are : entry.micros ≡ other.micros = same_number 4 entry.micros other.micros _ _ fits.micros_fit also.micros_fit all
-    (from_le_bytes-to_le_bytes_4 entry.micros fits.micros_fit) (from_le_bytes-to_le_bytes_4 other.micros also.micros_fit) in
-    let told_are : entry.told ≡ other.told = same_number 12 entry.told other.told _ _ fits.told_fits also.told_fits all
-    (from_le_bytes-to_le_bytes_4 entry.told fits.told_fits) (from_le_bytes-to_le_bytes_4 other.told also.told_fits) in
-    let as_long : length entry.frame ≡ length other.frame =
-    same_captured entry.secs entry.micros (length entry.frame) entry.told other.secs other.micros (length other.frame) other.told
-    (entry.frame ++ rest) (other.frame ++ more) (omega (arith, fits.captured)) (omega (arith, also.captured)) all in
-    let behind : entry.frame ++ rest ≡ other.frame ++ more =
-    same_behind entry.secs entry.micros (length entry.frame) entry.told other.secs other.micros (length other.frame) other.told
-    (entry.frame ++ rest) (other.frame ++ more) all in
-    let frames_are : entry.frame ≡ other.frame =
-    sym (take-append_seam entry.frame rest) ∙ ap (λ l. take (length entry.frame) l) behind
-    ∙ ap (λ n. take n (other.frame ++ more)) as_long ∙ take-append_seam other.frame more in
-    ap (λ (n : ℕ). record entry { secs = n }) secs_are
-    ∙ ap (λ (n : ℕ). record entry { secs = other.secs; micros = n }) micros_are
-    ∙ ap (λ (n : ℕ). record entry { secs = other.secs; micros = other.micros; told = n }) told_are
-    ∙ ap (λ (l : List ℕ). record other { frame = l }) frames_are
+use Rattle.capture_explain.proofs.CaptureLemmas.{header_length, same_rest, one_rest, one_entry}
 
 one_list : (some others : List CaptureEntry) → AreEntries some → AreEntries others → entries_bytes some ≡ entries_bytes others → some ≡ others
 one_list [] [] fit also same = refl

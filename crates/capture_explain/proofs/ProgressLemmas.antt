@@ -7,32 +7,32 @@ use Rattle.std.proofs.lemmas.Bool.Decides.{nat_tests}
 use Rattle.capture_explain.specs.Capture.{CaptureEntry, entry_bytes, IsHeader, IsEntry, AreEntries, entries_bytes, IsFront, IsCaptureFile}
 use Rattle.capture_explain.specs.Reading.{CutsEntry}
 use Rattle.capture_explain.specs.Rows.{IsRowOf, AreRowsOf}
-use Rattle.capture_explain.specs.Explained.{Explained, Taken, LacksRow, Leaves}
+use Rattle.capture_explain.specs.Explained.{ReadsWhole, Taken, LacksLast, Stops}
 use Rattle.capture_explain.specs.declared.error.ExplainError.{ExplainError}
 use Rattle.capture_explain.specs.declared.error.ExplainError.TheVariants.{Header, Entry, Limit, Read, NoMemory}
 use Rattle.capture_explain.specs.declared.explanation.ExplainRow.{ExplainRow}
 use Rattle.capture_explain.proofs.CaptureLemmas.{header_length}
 
--- what stands before an entry is read: the header and some entries, which have their rows
-pub record Progress (left_old left_now : Option (List ℕ)) (offset count : ℕ) (rows : List ExplainRow) : Type 0 where
+-- what stands before an entry is read: the header and some entries, of which this was told
+pub record Progress (left_old left_now : Option (List ℕ)) (offset count : ℕ) (Tells : List CaptureEntry → Type 0) : Type 0 where
   pub entries : List CaptureEntry
   pub front : List ℕ
   pub is_front : IsFront entries front
   pub counted : length entries ≡ count
   pub placed : length front ≡ offset
-  pub are_rows : AreRowsOf entries rows
+  pub tells : Tells entries
   pub took : Consumes left_old left_now front
 
 -- before the first entry
-pub starts : (left_old left_now : Option (List ℕ)) (header : List ℕ) (rows : List ExplainRow) → IsHeader header
-    → Consumes left_old left_now header → rows ≡ [] → Progress left_old left_now 24 0 rows
-starts left_old left_now header rows is took empty = record {
+pub starts : (left_old left_now : Option (List ℕ)) (header : List ℕ) (Tells : List CaptureEntry → Type 0) → IsHeader header
+    → Consumes left_old left_now header → Tells [] → Progress left_old left_now 24 0 Tells
+starts left_old left_now header Tells is took none = record {
   entries = [];
   front = header;
   is_front = record { header = header; is_header = is; fit = tt; whole = sym (append-nil header) };
   counted = refl;
   placed = header_length header is;
-  are_rows = empty;
+  tells = none;
   took = took;
 }
 
@@ -47,7 +47,7 @@ fit_push : (entries : List CaptureEntry) (entry : CaptureEntry) → AreEntries e
 fit_push [] entry fit fits = (fits, tt)
 fit_push (first ∷ entries) entry fit fits = (fit.0, fit_push entries entry fit.1 fits)
 
-rows_push : (entries : List CaptureEntry) (entry : CaptureEntry) (rows : List ExplainRow) (row : ExplainRow) → AreRowsOf entries rows
+pub rows_push : (entries : List CaptureEntry) (entry : CaptureEntry) (rows : List ExplainRow) (row : ExplainRow) → AreRowsOf entries rows
     → IsRowOf entry row → AreRowsOf (entries ++ entry ∷ []) (rows ++ row ∷ [])
 rows_push [] entry [] row are is = (is, refl)
 rows_push [] entry (first ∷ rows) row are is = cc
@@ -64,20 +64,25 @@ front_push entries entry front is fits = record {
       ∙ ap (λ l. is.header ++ l) (sym (entries_push entries entry));
 }
 
-pub goes_on : (left_old left_now left_new : Option (List ℕ)) (offset next count : ℕ) (rows more : List ExplainRow) (entry : CaptureEntry)
-    (row : ExplainRow) → Progress left_old left_now offset count rows → IsEntry entry → Consumes left_now left_new (entry_bytes entry)
-    → IsRowOf entry row → more ≡ rows ++ row ∷ [] → next ≡ offset + (16 + length entry.frame)
-    → Progress left_old left_new next (count + 1) more
-goes_on left_old left_now left_new offset next count rows more entry row progress fits took is added moved = record {
+pub goes_on : (left_old left_now left_new : Option (List ℕ)) (offset next count : ℕ) (Tells More : List CaptureEntry → Type 0)
+    (entry : CaptureEntry) → Progress left_old left_now offset count Tells → IsEntry entry → Consumes left_now left_new (entry_bytes entry)
+    → ((entries : List CaptureEntry) → length entries ≡ count → Tells entries → More (entries ++ entry ∷ []))
+    → next ≡ offset + (16 + length entry.frame) → Progress left_old left_new next (count + 1) More
+goes_on left_old left_now left_new offset next count Tells More entry progress fits took told moved = record {
   entries = progress.entries ++ entry ∷ [];
   front = progress.front ++ entry_bytes entry;
   is_front = front_push progress.entries entry progress.front progress.is_front fits;
   counted = omega (arith, length-append progress.entries (entry ∷ []), progress.counted);
   placed = omega (arith, length-append progress.front (entry_bytes entry), progress.placed, moved);
-  are_rows = subst (λ l. AreRowsOf (progress.entries ++ entry ∷ []) l) (sym added)
-      (rows_push progress.entries entry rows row progress.are_rows is);
+  tells = told progress.entries progress.counted progress.tells;
   took = Consumes-trans left_old left_now left_new progress.front (entry_bytes entry) progress.took took;
 }
+
+-- a row more of an explanation
+pub row_told : (rows more : List ExplainRow) (entry : CaptureEntry) (row : ExplainRow) (entries : List CaptureEntry)
+    → IsRowOf entry row → more ≡ rows ++ row ∷ [] → AreRowsOf entries rows → AreRowsOf (entries ++ entry ∷ []) more
+row_told rows more entry row entries is added are =
+    subst (λ l. AreRowsOf (entries ++ entry ∷ []) l) (sym added) (rows_push entries entry rows row are is)
 
 -- it was the last one
 ends_file : (left_old left_now : Option (List ℕ)) (max : ℕ) (entries : List CaptureEntry) (front : List ℕ) → Consumes left_old left_now front
@@ -88,66 +93,67 @@ ends_file (Some bytes) (Some more) max entries front took at_end is few =
     let all : bytes ≡ front = took ∙ ap (λ l. front ++ l) at_end ∙ append-nil front in
     record { is_front = subst (λ l. IsFront entries l) (sym all) is; few = few }
 
-pub finishes : (left_old left_now left_new : Option (List ℕ)) (max offset count : ℕ) (rows : List ExplainRow)
-    → Progress left_old left_now offset count rows → count ≤ max → IsAtEnd left_now → IsAtEnd left_new
-    → Explained max left_old left_new rows
-finishes left_old left_now left_new max offset count rows progress within was_at_end at_end = record {
+pub finishes : (left_old left_now left_new : Option (List ℕ)) (max offset count : ℕ) (Tells : List CaptureEntry → Type 0)
+    → Progress left_old left_now offset count Tells → count ≤ max → IsAtEnd left_now → IsAtEnd left_new
+    → ReadsWhole max left_old left_new Tells
+finishes left_old left_now left_new max offset count Tells progress within was_at_end at_end = record {
   entries = progress.entries;
   file = ends_file left_old left_now max progress.entries progress.front progress.took was_at_end progress.is_front
       (omega (arith, progress.counted, within));
   few = omega (arith, progress.counted, within);
-  are_rows = progress.are_rows;
+  tells = progress.tells;
   ended = at_end;
 }
 
 -- what was taken with a part behind the entries
-unfoldable taken_with : (left_old left_now left_new : Option (List ℕ)) (max offset count : ℕ) (rows : List ExplainRow) (part : List ℕ)
-    → Progress left_old left_now offset count rows → count ≤ max → Consumes left_now left_new part → Taken max left_old left_new rows
-taken_with left_old left_now left_new max offset count rows part progress within took = record {
+unfoldable taken_with : (left_old left_now left_new : Option (List ℕ)) (max offset count : ℕ) (Tells : List CaptureEntry → Type 0) (part : List ℕ)
+    → Progress left_old left_now offset count Tells → count ≤ max → Consumes left_now left_new part → Taken max left_old left_new Tells
+taken_with left_old left_now left_new max offset count Tells part progress within took = record {
   entries = progress.entries;
   front = progress.front;
   part = part;
   is_front = progress.is_front;
   few = omega (arith, progress.counted, within);
-  are_rows = progress.are_rows;
+  tells = progress.tells;
   took = Consumes-trans left_old left_now left_new progress.front part progress.took took;
 }
 
 -- no entry was read
-pub stops : (left_old left_now left_new : Option (List ℕ)) (max offset count : ℕ) (rows : List ExplainRow) (error : ExplainError) (is_full : Bool)
-    → Progress left_old left_now offset count rows → count ≤ max → (is_full ≡ false → count < max) → (is_full ≡ true → count ≡ max)
+pub stops : (left_old left_now left_new : Option (List ℕ)) (max offset count : ℕ) (Tells : List CaptureEntry → Type 0) (error : ExplainError) (is_full : Bool)
+    → Progress left_old left_now offset count Tells → count ≤ max → (is_full ≡ false → count < max) → (is_full ≡ true → count ≡ max)
     → CutsEntry error is_full left_now left_new → ((o : ℕ) → error ≡ Entry o → (o ≡ offset) × (is_full ≡ false))
-    → (error ≡ Limit → is_full ≡ true) → Leaves max left_old left_new rows error
+    → (error ≡ Limit → is_full ≡ true) → Stops max left_old left_new Tells error
 unfolding taken_with
-stops left_old left_now left_new max offset count rows Header is_full progress within few full cuts told limit = absurd cuts.ends
-stops left_old left_now left_new max offset count rows (Entry o) is_full progress within few full cuts told limit =
+stops left_old left_now left_new max offset count Tells Header is_full progress within few full cuts told limit = absurd cuts.ends
+stops left_old left_now left_new max offset count Tells (Entry o) is_full progress within few full cuts told limit =
     let here = told o refl in
     record {
-      taken = taken_with left_old left_now left_new max offset count rows cuts.part progress within cuts.took;
+      taken = taken_with left_old left_now left_new max offset count Tells cuts.part progress within cuts.took;
       ends = (omega (arith, progress.counted, few here.1), here.0 ∙ sym progress.placed, cuts.ends);
     }
-stops left_old left_now left_new max offset count rows Limit is_full progress within few full cuts told limit = record {
-  taken = taken_with left_old left_now left_new max offset count rows cuts.part progress within cuts.took;
+stops left_old left_now left_new max offset count Tells Limit is_full progress within few full cuts told limit = record {
+  taken = taken_with left_old left_now left_new max offset count Tells cuts.part progress within cuts.took;
   ends = (progress.counted ∙ full (limit refl), cuts.ends);
 }
-stops left_old left_now left_new max offset count rows Read is_full progress within few full cuts told limit = inr (record {
-  taken = taken_with left_old left_now left_new max offset count rows cuts.part progress within cuts.took;
+stops left_old left_now left_new max offset count Tells Read is_full progress within few full cuts told limit = inr (record {
+  taken = taken_with left_old left_now left_new max offset count Tells cuts.part progress within cuts.took;
   ends = ((λ some. omega (arith, progress.counted, few (cuts.tried refl some))), cuts.ends);
 })
-stops left_old left_now left_new max offset count rows NoMemory is_full progress within few full cuts told limit = absurd cuts.ends
+stops left_old left_now left_new max offset count Tells NoMemory is_full progress within few full cuts told limit = absurd cuts.ends
 
--- the entry that was read has no row
-pub lacks : (left_old left_now left_new : Option (List ℕ)) (max offset count : ℕ) (rows more : List ExplainRow) (entry : CaptureEntry)
-    → Progress left_old left_now offset count rows → count < max → IsEntry entry → Consumes left_now left_new (entry_bytes entry)
-    → more ≡ rows → LacksRow max left_old left_new more
-lacks left_old left_now left_new max offset count rows more entry progress few fits took same = record {
+-- of the entry that was read nothing is told
+pub lacks : (left_old left_now left_new : Option (List ℕ)) (max offset count : ℕ) (Tells More : List CaptureEntry → Type 0)
+    (entry : CaptureEntry) → Progress left_old left_now offset count Tells → count < max → IsEntry entry
+    → Consumes left_now left_new (entry_bytes entry) → ((entries : List CaptureEntry) → Tells entries → More entries)
+    → LacksLast max left_old left_new More
+lacks left_old left_now left_new max offset count Tells More entry progress few fits took same = record {
   entries = progress.entries;
   front = progress.front;
   entry = entry;
   is_front = progress.is_front;
   few = omega (arith, progress.counted, few);
   fits = fits;
-  are_rows = subst (λ l. AreRowsOf progress.entries l) (sym same) progress.are_rows;
+  tells = same progress.entries progress.tells;
   took = Consumes-trans left_old left_now left_new progress.front (entry_bytes entry) progress.took took;
 }
 

@@ -1,5 +1,5 @@
 -- Pieces that are handed to a sink one after another.
-use Rattle.std.proofs.Common.{◌≡◌, ℕ, ◌+◌, ◌<◌, ◌≤◌, Bool, List, [], ◌∷◌, ◌++◌, length, get_or, take, append_assoc, append-nil, Option, Result, Ok, subst, sym, ap, ◌∙◌, arith, length-take}
+use Rattle.std.proofs.Common.{◌≡◌, ℕ, ◌+◌, ◌<◌, ◌≤◌, Bool, List, [], ◌∷◌, ◌++◌, length, get_or, take, append_assoc, append-nil, Option, Result, Ok, subst, sym, ap, ◌∙◌, refl, arith, length-take}
 use Rattle.std.specs.List.{enumerate_from, flat_map}
 use Rattle.std.proofs.lemmas.List.{take_more, take_all}
 use Rattle.std.proofs.lemmas.Grind.{flat_map-append}
@@ -7,6 +7,8 @@ use Rattle.phy_layers.specs.declared.byte_sink.SinkError.{SinkError}
 use Rattle.phy_layers.specs.Sink.{Took}
 use Rattle.phy_layers.proofs.SinkLemmas.{took_then}
 use Rattle.capture_explain.specs.declared.explanation.ExplainRow.{ExplainRow}
+use Rattle.capture_explain.specs.Capture.{CaptureEntry}
+use Rattle.capture_explain.specs.PrintText.{entry_text, print_bytes}
 use Rattle.capture_explain.specs.Text.{Puts}
 use Rattle.capture_explain.specs.ExplainText.{row_text, explanation_bytes}
 
@@ -70,3 +72,34 @@ pub text_whole : (rows taken : List ExplainRow) (i : ℕ) → taken ≡ rows →
     → flat_map row_text (enumerate_from 0 (take i taken)) ≡ explanation_bytes rows
 unfolding explanation_bytes
 text_whole rows taken i same all = ap (λ l. flat_map row_text (enumerate_from 0 l)) (take_all i taken all ∙ same)
+
+-- an entry more that is printed
+pub entries_more : (entries : List CaptureEntry) (entry : CaptureEntry) (number : ℕ) → length entries ≡ number
+    → print_bytes entries ++ entry_text (number, entry) ≡ print_bytes (entries ++ entry ∷ [])
+unfolding print_bytes
+entries_more entries entry number counted =
+    let front = flat_map entry_text (enumerate_from 0 entries) in
+    let same : 0 + length entries ≡ number = omega (arith, counted) in
+    sym (ap (flat_map entry_text) (enumerate_from-push 0 entries entry)
+    ∙ flat_map-append entry_text (enumerate_from 0 entries) ((0 + length entries, entry) ∷ [])
+    ∙ ap (λ l. front ++ l) (append-nil (entry_text (0 + length entries, entry)))
+    ∙ ap (λ (k : ℕ). front ++ entry_text (k, entry)) same)
+
+-- and none
+pub no_entries : print_bytes [] ≡ []
+unfolding print_bytes
+no_entries = refl
+
+-- nothing more was handed to the sink
+pub puts_kept : {S : Type 0} {bytes : S → Option (List ℕ)} {faults : S → ℕ} {grows : Bool} {before middle after : Result (Unit {0}) SinkError}
+    {piece : List ℕ} {old between new : S} → Puts bytes faults grows before middle piece old between → after ≡ middle → new ≡ between
+    → Puts bytes faults grows before after piece old new
+puts_kept {S} {bytes} {faults} {grows} {before} {middle} {after} {piece} {old} {between} {new} puts same stays =
+    let P : Result (Unit {0}) SinkError → Type 0 = λ r. Puts bytes faults grows before r piece old between in
+    let Q : S → Type 0 = λ s. Puts bytes faults grows before after piece old s in
+    subst Q (sym stays) (subst P (sym same) puts)
+
+-- before the first entry
+pub puts_no_entries : {S : Type 0} {bytes : S → Option (List ℕ)} {faults : S → ℕ} {grows : Bool} {answer : Result (Unit {0}) SinkError}
+    {now : S} → Puts bytes faults grows answer answer (print_bytes []) now now
+puts_no_entries {S} {bytes} {faults} {grows} {answer} {now} = puts_same puts_nothing (sym no_entries)

@@ -7,6 +7,8 @@ pub mod Explained
 pub mod Laws
 pub mod Parts
 pub mod Places
+pub mod PrintExamples
+pub mod PrintText
 pub mod Reading
 pub mod Rows
 pub mod Text

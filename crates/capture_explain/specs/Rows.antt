@@ -23,3 +23,6 @@ abbrev pub AreRowsOf : List CaptureEntry → List ExplainRow → Type 0
 AreRowsOf [] rows = rows ≡ []
 AreRowsOf (entry ∷ entries) [] = ⊥
 AreRowsOf (entry ∷ entries) (row ∷ rows) = IsRowOf entry row × AreRowsOf entries rows
+
+abbrev pub TellsRows : List ExplainRow → List CaptureEntry → Type 0
+TellsRows rows entries = AreRowsOf entries rows

@@ -9,7 +9,9 @@ ghost use Rattle.capture_explain.specs.Reading.{head_bytes, GivesHeader, CutsHea
 ghost use Rattle.capture_explain.specs.declared.error.ExplainError.TheVariants.{Entry, Limit, Read};
 
 use crate::ExplainError;
+use net_wire::NoMemory;
 use script_source::{ScriptSource, fill};
+use std::alloc::Global;
 use wire_base::number::read_array;
 
 /// The bytes of the header of a file.
@@ -25,15 +27,28 @@ const HEADER_END: [u8; 4] = [1, 0, 0, 0];
 const HEAD_LEN: usize = 16;
 
 /// The most bytes of a frame that are captured.
-pub(crate) const FRAME_LEN: usize = 262_144;
+pub const FRAME_LEN: usize = 262_144;
 
 /// The four numbers in front of a frame.
 #[derive(Clone, Copy, Debug)]
-pub(crate) struct EntryHead {
+pub struct EntryHead {
+    /// The time of the frame: seconds, and microseconds beside them.
     pub secs: u32,
     pub micros: u32,
+    /// How many of its bytes were captured.
     pub captured: u32,
+    /// How many bytes the frame had, as the entry says.
     pub length: u32,
+}
+
+/// A buffer that any frame has room in.
+pub(crate) fn frame_room(alloc: Global) -> Result<Vec<u8>, NoMemory>
+    ensures { IfOk result (λ room. length room.items ≡ 262144) }
+{
+    match vec![in alloc; 0; FRAME_LEN] {
+        Ok(room) => Ok(room),
+        Err(_) => Err(NoMemory),
+    }
 }
 
 /// Both are the same bytes.
@@ -53,7 +68,7 @@ fn is_header(bytes: &[u8]) -> bool
 }
 
 /// Reads the header of a file.
-pub(crate) fn read_header<S: ScriptSource>(source: &mut S) -> Result<(), ExplainError>
+pub fn read_header<S: ScriptSource>(source: &mut S) -> Result<(), ExplainError>
     ensures ok { OnOk result (GivesHeader (S.left source.old) (S.left source.new)) }
     ensures err { IfErr result (λ e. CutsHeader e (S.left source.old) (S.left source.new)) }
     ensures read { IsErrOf result Read → IsRisen (S.faults source.old) (S.faults source.new) }
@@ -121,7 +136,7 @@ fn read_numbers<S: ScriptSource>(
 
 /// Reads the next entry, its frame to the front of `frame`; at the end of input there is none. `offset` is
 /// the place of its first byte in the file, and `is_full` says that no entry may come any more.
-pub(crate) fn read_entry<S: ScriptSource>(
+pub fn read_entry<S: ScriptSource>(
     source: &mut S,
     is_full: bool,
     offset: u64,

@@ -1,4 +1,5 @@
 //! Captures and dissections on examples, as calls without a body.
+ghost use Rattle.capture_explain.specs.PrintExamples.{IsCapturePrinted};
 ghost use Rattle.capture_explain.specs.Examples.{HasHeaderNumbers, HasEntryBytes, HasSecurityHeaders, HasNoFragmentHeader, StopsAtRefused};
 
 /// The numbers of the header of a file.
@@ -24,4 +25,9 @@ pub fn a_fragment_has_no_security_header()
 /// The layer of the refused part stops a dissection.
 pub fn a_refused_part_stops()
     ensures { StopsAtRefused }
+{}
+
+/// The lines of two frames that are printed.
+pub fn a_printed_capture_has_its_lines()
+    ensures { IsCapturePrinted }
 {}

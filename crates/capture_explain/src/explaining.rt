@@ -6,21 +6,11 @@ ghost use Rattle.capture_explain.specs.Reading.{entry_with};
 ghost use Rattle.capture_explain.specs.Rows.{IsRowOf};
 ghost use Rattle.capture_explain.specs.declared.explanation.ExplainRow.{ExplainRow};
 
-use crate::entry_reader::{EntryHead, FRAME_LEN, read_entry, read_header};
+use crate::entry_reader::{EntryHead, frame_room, read_entry, read_header};
 use crate::{ExplainError, ExplainRow, Explanation, dissect};
 use net_wire::NoMemory;
 use script_source::ScriptSource;
 use std::alloc::Global;
-
-/// A buffer that any frame has room in.
-fn frame_room(alloc: Global) -> Result<Vec<u8>, NoMemory>
-    ensures { IfOk result (λ room. length room.items ≡ 262144) }
-{
-    match vec![in alloc; 0; FRAME_LEN] {
-        Ok(room) => Ok(room),
-        Err(_) => Err(NoMemory),
-    }
-}
 
 /// Explains a capture frame by frame: reads it in pieces and keeps no frame.
 pub fn explain<S: ScriptSource>(

@@ -2,7 +2,7 @@
 #![tactic(auto)]
 
 mod dissecting;
-mod entry_reader;
+pub mod entry_reader;
 mod error;
 pub mod examples;
 mod explaining;
@@ -10,12 +10,14 @@ mod explanation;
 pub mod laws;
 mod layers;
 mod parts;
+mod printing;
 mod row_text;
-mod text;
+pub mod text;
 
 pub use dissecting::{Dissection, dissect};
 pub use error::ExplainError;
 pub use explaining::explain;
 pub use explanation::{ExplainRow, Explanation};
 pub use parts::{AhList, AhPart, EspPart, Part, PartKind, PartList};
+pub use printing::print_capture;
 pub use row_text::explain_text;

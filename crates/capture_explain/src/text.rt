@@ -7,7 +7,7 @@ use itoa::Buffer;
 use phy_layers::{ByteSink, SinkError};
 
 /// Writes a piece, unless an earlier one was refused.
-pub(crate) fn put<O: ByteSink>(out: &mut O, answer: &mut Result<(), SinkError>, piece: &[u8])
+pub fn put<O: ByteSink>(out: &mut O, answer: &mut Result<(), SinkError>, piece: &[u8])
     ensures { Puts O.bytes O.faults O.grows answer.old answer.new piece.now out.old out.new }
 {
     match *answer {
@@ -17,7 +17,7 @@ pub(crate) fn put<O: ByteSink>(out: &mut O, answer: &mut Result<(), SinkError>, 
 }
 
 /// Writes the digits of a number.
-pub(crate) fn put_number<O: ByteSink>(out: &mut O, answer: &mut Result<(), SinkError>, number: u64)
+pub fn put_number<O: ByteSink>(out: &mut O, answer: &mut Result<(), SinkError>, number: u64)
     ensures { Puts O.bytes O.faults O.grows answer.old answer.new (decimal number) out.old out.new }
 {
     let mut buffer = Buffer::new();
@@ -25,11 +25,7 @@ pub(crate) fn put_number<O: ByteSink>(out: &mut O, answer: &mut Result<(), SinkE
 }
 
 /// Writes the digits of a number with leading zeros, at least six of them.
-pub(crate) fn put_six_digits<O: ByteSink>(
-    out: &mut O,
-    answer: &mut Result<(), SinkError>,
-    number: u64,
-)
+pub fn put_six_digits<O: ByteSink>(out: &mut O, answer: &mut Result<(), SinkError>, number: u64)
     ensures { Puts O.bytes O.faults O.grows answer.old answer.new (six_digits number) out.old out.new }
 {
     let mut buffer = Buffer::new();
@@ -48,11 +44,7 @@ fn zeros(count: usize) -> &'static [u8]
 }
 
 /// Writes eight hexadecimal digits.
-pub(crate) fn put_hexadecimal<O: ByteSink>(
-    out: &mut O,
-    answer: &mut Result<(), SinkError>,
-    number: u32,
-)
+pub fn put_hexadecimal<O: ByteSink>(out: &mut O, answer: &mut Result<(), SinkError>, number: u32)
     ensures { Puts O.bytes O.faults O.grows answer.old answer.new (hexadecimal number) out.old out.new }
 {
     let digits = [
@@ -68,8 +60,8 @@ pub(crate) fn put_hexadecimal<O: ByteSink>(
     put(out, answer, &digits);
 }
 
-/// The last hexadecimal digit of a number.
-fn digit_of(number: u32) -> u8
+/// The last hexadecimal digit of a number, in lower case.
+pub fn digit_of(number: u32) -> u8
     ensures { result ≡ hexadecimal_digit number }
 {
     let last = (number % 16) as u8;

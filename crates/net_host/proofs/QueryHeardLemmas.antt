@@ -1,12 +1,8 @@
 -- What the queries hear of an event.
-use Rattle.std.proofs.Common.{◌≡◌, ℕ, ◌<◌, List, length, drop, cond, false, Option, Some, None, refl, ◌∙◌, ap, subst, sym}
-use Rattle.std.specs.Prelude.{nat_le}
-use Rattle.std.proofs.lemmas.Bool.{and_left, lt-leb}
-use Rattle.net_wire.specs.declared.address.EthernetAddress.{EthernetAddress}
+use Rattle.std.proofs.Common.{◌≡◌, ℕ, List, cond, false, Option, Some, None, refl, ◌∙◌, ap, subst, sym}
 use Rattle.net_wire.specs.declared.address.IpAddress.{IpAddress}
 use Rattle.net_wire.specs.declared.arp.ArpRepr.{ArpRepr}
-use Rattle.net_wire.specs.declared.arrival.Sources.TheVariants.{Unicast}
-use Rattle.net_wire.specs.Arrival.{arriving_datagram, packet_datagram}
+use Rattle.net_wire.specs.Arrival.{arriving_datagram}
 use Rattle.net_wire.specs.Datagram.{Datagram}
 use Rattle.dhcp_client.specs.Config.{ClientSettings}
 use Rattle.dns_client.specs.Client.{client_of}
@@ -61,9 +57,3 @@ told_numbers (Some arp) out = refl
 pub told_hardware : (told : Option ArpRepr) (out : Emitter) → (after_told told out).hardware ≡ out.hardware
 told_hardware None out = refl
 told_hardware (Some arp) out = refl
-
--- a frame that is shorter than an Ethernet header carries nothing
-pub none_short : (hardware : EthernetAddress) (bytes : List ℕ) → length bytes < 14 → arriving_datagram hardware bytes ≡ None
-none_short hardware bytes short =
-    ap (λ b. cond b (packet_datagram Unicast (drop 14 bytes)) None)
-    (and_left _ _ (and_left (nat_le 14 (length bytes)) _ (lt-leb 14 (length bytes) short)))

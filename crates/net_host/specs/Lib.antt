@@ -2,7 +2,6 @@ pub mod Agreement
 pub mod Captured
 pub mod Config
 pub mod ConfigExamples
-pub mod Dissected
 pub mod Emitter
 pub mod Following
 pub mod ForeignRows

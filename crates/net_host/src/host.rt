@@ -1,6 +1,6 @@
 //! A host, and what it does in one event.
 ghost use Rattle.std.specs.Prelude.{◌≡◌, ℕ, ◌<◌, ◌^◌, false, List, ◌∷◌, Option, None, replicate, IsUtf8, IfOk, OnOk};
-ghost use Rattle.std.specs.Option.{option_copied, option_map};
+ghost use Rattle.std.specs.Option.{option_map};
 ghost use Rattle.dhcp_client.specs.Hearing.{ear_of};
 ghost use Rattle.dhcp_client.specs.Heard.{IsShort};
 ghost use Rattle.net_wire.specs.declared.address.IpAddress.{IpAddress};
@@ -9,7 +9,6 @@ ghost use Rattle.net_wire.specs.ArrivalValues.{datagram_value};
 ghost use Rattle.host_model.specs.Frames.{not_asked};
 ghost use Rattle.host_model.specs.Hearing.{heard_by, is_for_client};
 ghost use Rattle.host_model.specs.Neighbor.{told_to};
-ghost use Rattle.net_host.specs.Dissected.{IsPacketFor};
 ghost use Rattle.host_model.specs.Queries.{hears_datagram};
 ghost use Rattle.host_model.specs.QuerySlots.{Slot};
 ghost use Rattle.host_model.specs.Script.{IsArrival, Query};
@@ -25,18 +24,20 @@ ghost use Rattle.net_host.specs.QueryStanding.{StandAs};
 ghost use Rattle.script_reader.specs.Reading.{arrival_of};
 ghost use Rattle.phy_layers.specs.PcapBytes.{epoch_micros, IsCapturable};
 
-use crate::arrival::{arp_in, datagram_in};
 use crate::emitter::Emitter;
 use crate::neighbors::Neighbors;
 use crate::queries::{end_queries, hear_response, poll_dns, serve, start};
 use crate::{HostConfig, LineList, ScriptEvent, SentList};
 use dhcp_client::{Event, Socket};
 use dns_client::DnsQuery;
-use ether_lax::LaxSlicedPacket;
 use host_model::{EventWords, Held, Outcome, QueryLine};
 use managed::ManagedSlice;
+use net_wire::arp::arp_of;
 use net_wire::dns::DnsType;
-use net_wire::{ArpRepr, Context, Datagram, EmitError, Instant, Ipv4Address, Ipv4Cidr, NoMemory};
+use net_wire::{
+    ArpRepr, Context, Datagram, EmitError, Instant, Ipv4Address, Ipv4Cidr, NoMemory, Sources,
+    datagram_of,
+};
 use std::alloc::Global;
 
 /// The state of a host between two events.
@@ -140,19 +141,16 @@ impl<'a, 'm> Host<'a, 'm> {
         }
     }
 
-    /// Takes in an event, with the packet of the frame that it brings, and gives the address that is leased then
-    /// and the frames that are sent.
+    /// Takes in an event, and gives the address that is leased then and the frames that are sent.
     pub fn handle(
         &mut self,
         at: Instant,
         event: ScriptEvent<'_>,
-        packet: Option<&LaxSlicedPacket<'_>>,
         words: EventWords,
     ) -> Result<Handled, NoMemory>
         requires can { CanHandle self.old }
         requires time { IsCapturable at }
         requires arrival { IsArrival (arrival_of event) }
-        requires packet { IsPacketFor (arrival_of event) (option_copied packet) }
         ensures value { IfOk result (HandlesEvent at event.entry words self.old self.new) }
         ensures within { IfOk result (λ handled. AreCapturable handled.sent) }
         ensures ready { OnOk result (IsReady self.new.dhcp self.new.ip_mtu) }
@@ -168,7 +166,7 @@ impl<'a, 'm> Host<'a, 'm> {
             hardware_addr: self.out.hardware,
             ip_mtu: self.ip_mtu,
         };
-        let refused = self.hear(&cx, event, packet, words)?;
+        let refused = self.hear(&cx, event, words)?;
         poll_dhcp(&mut self.dhcp, &cx, words.first, &mut self.out)?;
         let asked = self.out.refused_hop();
         self.out.ask(asked)?;
@@ -192,12 +190,10 @@ impl<'a, 'm> Host<'a, 'm> {
         &mut self,
         cx: &Context,
         event: ScriptEvent<'_>,
-        packet: Option<&LaxSlicedPacket<'_>>,
         words: EventWords,
     ) -> Result<Option<QueryLine>, NoMemory>
         requires can { CanHandle self.old }
         requires arrival { IsArrival (arrival_of event) }
-        requires packet { IsPacketFor (arrival_of event) (option_copied packet) }
         requires hardware { cx.now.hardware_addr ≡ self.old.out.hardware }
         ensures dhcp { OnOk result (self.new.dhcp ≡ after_arrival cx.entry.now (arrival_of event.entry) self.old.dhcp) }
         ensures short { OnOk result (IsShortIn cx.entry.now (arrival_of event.entry) self.old.dhcp) }
@@ -211,12 +207,11 @@ impl<'a, 'm> Host<'a, 'm> {
         ensures small { OnOk result (AreCapturable self.old.out.sent → AreCapturable self.new.out.sent) }
     {
         match event {
-            ScriptEvent::Frame(_) => {
-                if let Some(packet) = packet {
-                    self.take_told(arp_in(packet, self.out.hardware))?;
-                    let datagram = datagram_in(packet, self.out.hardware);
-                    tell_datagram(&mut self.dhcp, &mut self.dns, cx, datagram);
-                }
+            ScriptEvent::Frame(frame) => {
+                let told = arp_of(frame, self.out.hardware);
+                self.take_told(told)?;
+                let datagram = datagram_of(frame, self.out.hardware, Sources::Unicast);
+                tell_datagram(&mut self.dhcp, &mut self.dns, cx, datagram);
                 Ok(None)
             }
             ScriptEvent::Tick => Ok(None),

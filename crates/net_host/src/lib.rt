@@ -1,7 +1,6 @@
 //! The host: it reads a script of events, and answers each as the definitions of `host_model` say.
 #![tactic(auto)]
 
-mod arrival;
 pub mod config;
 mod emitter;
 mod hops;

@@ -7,7 +7,6 @@ ghost use Rattle.phy_layers.specs.PcapBytes.{epoch_micros, IsCapturable};
 ghost use Rattle.host_model.specs.Chronicle.{words_at};
 ghost use Rattle.host_model.specs.Script.{IsArrival};
 ghost use Rattle.net_host.specs.Captured.{arrived_record, sent_records};
-ghost use Rattle.net_host.specs.Dissected.{IsPacketFor};
 ghost use Rattle.net_host.specs.Report.{AreCapturable};
 ghost use Rattle.net_host.specs.Handling.{CanHandle};
 ghost use Rattle.net_host.specs.Neighbors.{pair_count, place_count};
@@ -31,7 +30,7 @@ use crate::{
     Sent, Silent, Watcher,
 };
 use dns_client::DnsQuery;
-use ether_lax::{FrameNote, LaxSlicedPacket, NotedFrame, packet_and_note};
+use ether_lax::{FrameNote, note_of};
 use host_model::{EventWords, Neighbor};
 use net_wire::{Instant, Ipv4Address, NoMemory};
 use phy_layers::{PcapLinkType, PcapSink, SinkError};
@@ -127,31 +126,14 @@ fn kind_of(event: ScriptEvent<'_>) -> Kind
     }
 }
 
-/// The note and the packet of the frame that an event brings.
-#[derive(Debug, Drop)]
-struct Dissected<'a> {
-    note: Option<FrameNote>,
-    packet: Option<LaxSlicedPacket<'a>>,
-}
-
-/// Dissects the frame that arrived, where one did.
-fn dissect(event: ScriptEvent<'_>) -> Dissected<'_>
+/// The note of the frame that arrived, where one did.
+fn note_for(event: ScriptEvent<'_>) -> Option<FrameNote>
     requires { IsArrival (arrival_of event) }
-    ensures note { IsNoteFor (arrival_of event.entry) result.note }
-    ensures packet { IsPacketFor (arrival_of event.entry) result.packet }
+    ensures { IsNoteFor (arrival_of event.entry) result }
 {
     match event {
-        ScriptEvent::Frame(frame) => {
-            let NotedFrame { packet, note } = packet_and_note(frame);
-            Dissected {
-                note: Some(note),
-                packet,
-            }
-        }
-        ScriptEvent::Tick | ScriptEvent::Reset | ScriptEvent::Query { .. } => Dissected {
-            note: None,
-            packet: None,
-        },
+        ScriptEvent::Frame(frame) => Some(note_of(frame)),
+        ScriptEvent::Tick | ScriptEvent::Reset | ScriptEvent::Query { .. } => None,
     }
 }
 
@@ -218,10 +200,10 @@ fn take_event<C: PcapSink>(
     ensures holds { OnOk result (HoldsQueries host.new) }
     ensures queries { OnOk result (host.new.queries ≤ host.old.queries + 1) }
 {
-    let Dissected { note, packet } = dissect(event);
+    let note = note_for(event);
     report.begin(host.out.alloc, at, kind_of(event), note, host.lease())?;
     capture_arrived(capture, at, event)?;
-    let handled = host.handle(at, event, packet.as_ref(), words)?;
+    let handled = host.handle(at, event, words)?;
     let captured = capture_sent(capture, at, handled.sent.as_slice());
     report.fill_last(handled.lease, handled.sent, handled.lines);
     captured?;

@@ -3,8 +3,9 @@ use Rattle.std.proofs.Common.{◌≡◌, ◌+◌, ◌==◌, inr, length, take, E
 use Rattle.std.proofs.lemmas.Result.{err_from_is_err_and}
 use Rattle.wire_base.specs.Causes.{IsRisen}
 use Rattle.capture_explain.specs.Reading.{entry_with, GivesEntry}
+use Rattle.capture_explain.specs.Rows.{AreRowsOf, TellsRows}
 use Rattle.capture_explain.proofs.CauseLemmas.{header_leaves, leaves_cause, completes}
-use Rattle.capture_explain.proofs.ProgressLemmas.{starts, goes_on, stops, lacks, still_below, at_limit}
+use Rattle.capture_explain.proofs.ProgressLemmas.{starts, goes_on, row_told, stops, lacks, still_below, at_limit}
 use Rattle.capture_explain.proofs.ReadingLemmas.{written_over}
 use Rattle.capture_explain.proofs.explaining.explain.Goals as goal
 
@@ -13,7 +14,7 @@ returns-in_err-read_header-clause-leaves g c =
     let refused = err_from_is_err_and c.from_residual-in_err-read_header.result c.from_residual-in_err-read_header.ensures.1 in
     let left = g.S.ScriptSource.left in
     rw (refused.1, refused.2)
-    (header_leaves c.args.max_frames (left c.args.source.now) (left c.read_header.new.source) c.args.into.now c.in_err-read_header.field-0.0
+    (header_leaves c.args.max_frames (left c.args.source.now) (left c.read_header.new.source) (TellsRows c.args.into.now) c.in_err-read_header.field-0.0
     c.requires.empty c.in_err-read_header.ensures.err)
 
 pub returns-in_err-read_header-clause-cause : goal.returns-in_err-read_header-clause-cause
@@ -22,9 +23,9 @@ returns-in_err-read_header-clause-cause g c =
     let left = g.S.ScriptSource.left in
     let faults = g.S.ScriptSource.faults in
     rw (refused.1, refused.2)
-    (leaves_cause c.args.max_frames (left c.args.source.now) (left c.read_header.new.source) c.args.into.now
+    (leaves_cause c.args.max_frames (left c.args.source.now) (left c.read_header.new.source) (TellsRows c.args.into.now)
     (faults c.args.source.now) (faults c.read_header.new.source) c.in_err-read_header.field-0.0
-    (header_leaves c.args.max_frames (left c.args.source.now) (left c.read_header.new.source) c.args.into.now c.in_err-read_header.field-0.0
+    (header_leaves c.args.max_frames (left c.args.source.now) (left c.read_header.new.source) (TellsRows c.args.into.now) c.in_err-read_header.field-0.0
     c.requires.empty c.in_err-read_header.ensures.err)
     (record { quiet = λ other. c.in_err-read_header.ensures.quiet (λ is. other (cc)); risen = λ is. c.in_err-read_header.ensures.read (ap (λ e. Err e) is) }))
 
@@ -39,7 +40,7 @@ loop-count-init g c =
     let left = g.S.ScriptSource.left in
     let header = c.in_ok-read_header.ensures.ok in
     record {
-      progress = starts (left c.args.source.now) (left c.read_header.new.source) header.header c.args.into.now header.is_header header.took
+      progress = starts (left c.args.source.now) (left c.read_header.new.source) header.header (TellsRows c.args.into.now) header.is_header header.took
           c.requires.empty;
       quiet = c.in_ok-read_header.ensures.quiet (λ is. cc);
       near = omega arith;
@@ -54,7 +55,7 @@ returns-in_err-head-clause-leaves g c =
     let left = g.S.ScriptSource.left in
     let now = c.loop-count in
     rw (refused.1, refused.2)
-    (stops (left c.args.source.now) (left now.source) (left c.read_entry.new.source) c.args.max_frames now.offset now.count now.into
+    (stops (left c.args.source.now) (left now.source) (left c.read_entry.new.source) c.args.max_frames now.offset now.count (TellsRows now.into)
     c.in_err-head.field-0.0 (now.count == c.args.max_frames) now.invariant.progress now.invariant.within
     (still_below now.count c.args.max_frames now.invariant.within) (at_limit now.count c.args.max_frames) c.in_err-head.ensures.err
     c.in_err-head.ensures.entry (λ is. c.in_err-head.ensures.limit (ap (λ e. Err e) is)))
@@ -66,9 +67,9 @@ returns-in_err-head-clause-cause g c =
     let faults = g.S.ScriptSource.faults in
     let now = c.loop-count in
     rw (refused.1, refused.2)
-    (leaves_cause c.args.max_frames (left c.args.source.now) (left c.read_entry.new.source) now.into (faults c.args.source.now)
+    (leaves_cause c.args.max_frames (left c.args.source.now) (left c.read_entry.new.source) (TellsRows now.into) (faults c.args.source.now)
     (faults c.read_entry.new.source) c.in_err-head.field-0.0
-    (stops (left c.args.source.now) (left now.source) (left c.read_entry.new.source) c.args.max_frames now.offset now.count now.into
+    (stops (left c.args.source.now) (left now.source) (left c.read_entry.new.source) c.args.max_frames now.offset now.count (TellsRows now.into)
     c.in_err-head.field-0.0 (now.count == c.args.max_frames) now.invariant.progress now.invariant.within
     (still_below now.count c.args.max_frames now.invariant.within) (at_limit now.count c.args.max_frames) c.in_err-head.ensures.err
     c.in_err-head.ensures.entry (λ is. c.in_err-head.ensures.limit (ap (λ e. Err e) is)))
@@ -91,9 +92,10 @@ returns-in_err-add_row-clause-leaves g c =
     let head = c.in-Some.head in
     let found = rw c.in-Some.is at c.in_ok-head.ensures.found in
     rw (refused.1, refused.2)
-    (inr (lacks (left c.args.source.now) (left now.source) (left c.read_entry.new.source) c.args.max_frames now.offset now.count now.into
-    c.add_row.new.into (entry_with head (take head.captured c.read_entry.new.frame)) now.invariant.progress
-    (still_below now.count c.args.max_frames now.invariant.within found.0) found.1.fits found.1.took c.in_err-add_row.ensures.err))
+    (inr (lacks (left c.args.source.now) (left now.source) (left c.read_entry.new.source) c.args.max_frames now.offset now.count (TellsRows now.into)
+    (TellsRows c.add_row.new.into) (entry_with head (take head.captured c.read_entry.new.frame)) now.invariant.progress
+    (still_below now.count c.args.max_frames now.invariant.within found.0) found.1.fits found.1.took
+    (λ entries are. subst (λ l. AreRowsOf entries l) (sym c.in_err-add_row.ensures.err) are)))
 
 pub loop-count-preserved : goal.loop-count-preserved
 loop-count-preserved g c =
@@ -111,8 +113,9 @@ loop-count-preserved g c =
     let below = still_below now.count c.args.max_frames now.invariant.within found.0 in
     record {
       progress = goes_on (left c.args.source.now) (left now.source) (left c.read_entry.new.source) now.offset (now.offset + (16 + c.from.result))
-          now.count now.into c.add_row.new.into (entry_with head (take head.captured c.as_slice.result.now)) added.0 now.invariant.progress
-          given.fits given.took added.1 added.2 (omega (arith, c.from.ensures, given.captured));
+          now.count (TellsRows now.into) (TellsRows c.add_row.new.into)
+          (entry_with head (take head.captured c.as_slice.result.now)) now.invariant.progress given.fits given.took
+          (λ entries counted are. row_told now.into c.add_row.new.into _ added.0 entries added.1 added.2 are) (omega (arith, c.from.ensures, given.captured));
       quiet = c.in_ok-head.ensures.quiet (λ is. cc) ∙ now.invariant.quiet;
       near = omega (arith, now.invariant.near, c.from.ensures, given.captured, given.fits.captured);
       within = omega (arith, below);

@@ -1,5 +1,6 @@
 -- The entries so far were read and have their rows.
 use Rattle.std.proofs.Common.{◌≡◌, ◌+◌, ◌*◌, ◌≤◌, length}
+use Rattle.capture_explain.specs.Rows.{TellsRows}
 use Rattle.capture_explain.proofs.ProgressLemmas.{Progress}
 use Rattle.capture_explain.proofs.explaining.explain.Given as goal
 
@@ -8,7 +9,7 @@ invariant-loop-count g l =
     let left = g.S.ScriptSource.left in
     let faults = g.S.ScriptSource.faults in
     record {
-      progress : Progress (left l.fn.source) (left l.source) l.offset l.count l.into;
+      progress : Progress (left l.fn.source) (left l.source) l.offset l.count (TellsRows l.into);
       quiet : faults l.source ≡ faults l.fn.source;
       near : l.offset ≤ 24 + l.count * 262160;
       within : l.count ≤ l.max_frames;

@@ -13,31 +13,31 @@ use Rattle.net_host.proofs.run_script.take_event.Goals as goal
 
 pub returns-in_err-capture_arrived-clause-sink : goal.returns-in_err-capture_arrived-clause-sink
 returns-in_err-capture_arrived-clause-sink g c = λ is. inl (record {
-  note = c.dissect-note.result.note;
-  noted = c.dissect-note.ensures.note;
+  note = c.note_for-note.result;
+  noted = c.note_for-note.ensures;
   placed = c.in_ok-begin.ensures.ok
-      ∙ ap (λ k. c.args.report.now ++ new_row c.args.at k c.dissect-note.result.note c.lease.result ∷ []) c.kind_of.ensures
-      ∙ ap (λ l. c.args.report.now ++ new_row c.args.at (kind_of (arrival_of c.args.event)) c.dissect-note.result.note l ∷ []) c.lease.ensures;
+      ∙ ap (λ k. c.args.report.now ++ new_row c.args.at k c.note_for-note.result c.lease.result ∷ []) c.kind_of.ensures
+      ∙ ap (λ l. c.args.report.now ++ new_row c.args.at (kind_of (arrival_of c.args.event)) c.note_for-note.result l ∷ []) c.lease.ensures;
   captured = c.capture_arrived.ensures.front;
 })
 
 pub returns-in_err-capture_arrived-clause-memory : goal.returns-in_err-capture_arrived-clause-memory
 returns-in_err-capture_arrived-clause-memory g c = λ is. inr (inl (record {
-  note = c.dissect-note.result.note;
-  noted = c.dissect-note.ensures.note;
+  note = c.note_for-note.result;
+  noted = c.note_for-note.ensures;
   placed = c.in_ok-begin.ensures.ok
-      ∙ ap (λ k. c.args.report.now ++ new_row c.args.at k c.dissect-note.result.note c.lease.result ∷ []) c.kind_of.ensures
-      ∙ ap (λ l. c.args.report.now ++ new_row c.args.at (kind_of (arrival_of c.args.event)) c.dissect-note.result.note l ∷ []) c.lease.ensures;
+      ∙ ap (λ k. c.args.report.now ++ new_row c.args.at k c.note_for-note.result c.lease.result ∷ []) c.kind_of.ensures
+      ∙ ap (λ l. c.args.report.now ++ new_row c.args.at (kind_of (arrival_of c.args.event)) c.note_for-note.result l ∷ []) c.lease.ensures;
   captured = c.capture_arrived.ensures.front;
 }))
 
 pub returns-in_err-handled-clause-memory : goal.returns-in_err-handled-clause-memory
 returns-in_err-handled-clause-memory g c = λ is. inr (inl (record {
-  note = c.dissect-note.result.note;
-  noted = c.dissect-note.ensures.note;
+  note = c.note_for-note.result;
+  noted = c.note_for-note.ensures;
   placed = c.in_ok-begin.ensures.ok
-      ∙ ap (λ k. c.args.report.now ++ new_row c.args.at k c.dissect-note.result.note c.lease.result ∷ []) c.kind_of.ensures
-      ∙ ap (λ l. c.args.report.now ++ new_row c.args.at (kind_of (arrival_of c.args.event)) c.dissect-note.result.note l ∷ []) c.lease.ensures;
+      ∙ ap (λ k. c.args.report.now ++ new_row c.args.at k c.note_for-note.result c.lease.result ∷ []) c.kind_of.ensures
+      ∙ ap (λ l. c.args.report.now ++ new_row c.args.at (kind_of (arrival_of c.args.event)) c.note_for-note.result l ∷ []) c.lease.ensures;
   captured = c.capture_arrived.ensures.front;
 }))
 
@@ -45,8 +45,8 @@ pub returns-in_err-captured-clause-sink : goal.returns-in_err-captured-clause-si
 returns-in_err-captured-clause-sink g c = λ is.
     let places = place_row c.args.at c.args.event c.args.words c.args.host.now c.handle.new.self (g.C.ByteSink.bytes c.args.capture.now)
     (g.C.ByteSink.bytes c.capture_sent-captured.new.capture) c.args.report.now c.begin.new.self c.fill_last.new.self
-    c.kind_of.result c.dissect-note.result.note c.lease.result c.in_ok-handled.handled c.in_ok-begin.ensures.ok c.fill_last.ensures
-    c.kind_of.ensures c.dissect-note.ensures.note c.in_ok-handled.ensures.value in
+    c.kind_of.result c.note_for-note.result c.lease.result c.in_ok-handled.handled c.in_ok-begin.ensures.ok c.fill_last.ensures
+    c.kind_of.ensures c.note_for-note.ensures c.in_ok-handled.ensures.value in
     let P : List ℕ → Type 0 = λ l.
     AppendsFront (g.C.ByteSink.bytes c.capture_arrived.new.capture) (g.C.ByteSink.bytes c.capture_sent-captured.new.capture) l in
     let sent = subst P (ap (sent_records (epoch_micros c.args.at)) c.as_slice.ensures) c.capture_sent-captured.ensures.front in
@@ -62,8 +62,8 @@ pub returns-in_err-captured-clause-memory : goal.returns-in_err-captured-clause-
 returns-in_err-captured-clause-memory g c = λ is.
     let places = place_row c.args.at c.args.event c.args.words c.args.host.now c.handle.new.self (g.C.ByteSink.bytes c.args.capture.now)
     (g.C.ByteSink.bytes c.capture_sent-captured.new.capture) c.args.report.now c.begin.new.self c.fill_last.new.self
-    c.kind_of.result c.dissect-note.result.note c.lease.result c.in_ok-handled.handled c.in_ok-begin.ensures.ok c.fill_last.ensures
-    c.kind_of.ensures c.dissect-note.ensures.note c.in_ok-handled.ensures.value in
+    c.kind_of.result c.note_for-note.result c.lease.result c.in_ok-handled.handled c.in_ok-begin.ensures.ok c.fill_last.ensures
+    c.kind_of.ensures c.note_for-note.ensures c.in_ok-handled.ensures.value in
     let P : List ℕ → Type 0 = λ l.
     AppendsFront (g.C.ByteSink.bytes c.capture_arrived.new.capture) (g.C.ByteSink.bytes c.capture_sent-captured.new.capture) l in
     let sent = subst P (ap (sent_records (epoch_micros c.args.at)) c.as_slice.ensures) c.capture_sent-captured.ensures.front in
@@ -79,8 +79,8 @@ pub returns-clause-ok : goal.returns-clause-ok
 returns-clause-ok g c =
     let places = place_row c.args.at c.args.event c.args.words c.args.host.now c.handle.new.self (g.C.ByteSink.bytes c.args.capture.now)
     (g.C.ByteSink.bytes c.capture_sent-captured.new.capture) c.args.report.now c.begin.new.self c.fill_last.new.self
-    c.kind_of.result c.dissect-note.result.note c.lease.result c.in_ok-handled.handled c.in_ok-begin.ensures.ok c.fill_last.ensures
-    c.kind_of.ensures c.dissect-note.ensures.note c.in_ok-handled.ensures.value in
+    c.kind_of.result c.note_for-note.result c.lease.result c.in_ok-handled.handled c.in_ok-begin.ensures.ok c.fill_last.ensures
+    c.kind_of.ensures c.note_for-note.ensures c.in_ok-handled.ensures.value in
     let P : List ℕ → Type 0 = λ l.
     Appends (g.C.ByteSink.bytes c.capture_arrived.new.capture) (g.C.ByteSink.bytes c.capture_sent-captured.new.capture) l in
     let whole = rw c.in_ok-captured.was at c.capture_sent-captured.ensures.whole in

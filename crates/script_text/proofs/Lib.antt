@@ -1,0 +1,4 @@
+pub mod CapturedLemmas
+pub mod FramesLemmas
+pub mod LineLemmas
+pub mod ShownLemmas

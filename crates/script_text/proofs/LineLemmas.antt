@@ -1,0 +1,35 @@
+-- Pieces that were put are all that a call handed to its sink.
+use Rattle.std.proofs.Common.{◌≡◌, ℕ, Bool, List, [], ◌∷◌, ◌++◌, Option, Some, None, Result, Ok, ap, sym, ◌∙◌, refl, arith, append-nil}
+use Rattle.std.specs.List.{flat_map}
+use Rattle.std.specs.Io.KnownBytes.{Appends}
+use Rattle.std.proofs.lemmas.Grind.{flat_map-append}
+use Rattle.wire_base.specs.Causes.{AppendsFront}
+use Rattle.phy_layers.specs.declared.byte_sink.SinkError.{SinkError}
+use Rattle.phy_layers.specs.Sink.{Took}
+use Rattle.capture_explain.specs.Text.{Puts}
+
+pub Appends-nil : (known : Option (List ℕ)) → Appends known known []
+Appends-nil None = tt
+Appends-nil (Some bytes) = sym (append-nil bytes)
+
+pub AppendsFront-nil : (known : Option (List ℕ)) → AppendsFront known known []
+AppendsFront-nil None = tt
+AppendsFront-nil (Some bytes) = ([], [], refl, sym (append-nil bytes))
+
+took_nothing : {S : Type 0} {bytes : S → Option (List ℕ)} {faults : S → ℕ} {grows : Bool} {now : S} → Took bytes faults grows (Ok tt) [] now now
+took_nothing {S} {bytes} {faults} {grows} {now} = record {
+  whole = Appends-nil (bytes now);
+  front = AppendsFront-nil (bytes now);
+  later = omega arith;
+  quiet = refl;
+  fault = λ is. cc;
+  memory = λ is. cc;
+}
+
+pub all_put : {S : Type 0} {bytes : S → Option (List ℕ)} {faults : S → ℕ} {grows : Bool} {after : Result (Unit {0}) SinkError}
+    {piece : List ℕ} {old new : S} → Puts bytes faults grows (Ok tt) after piece old new → Took bytes faults grows after piece old new
+all_put {S} {bytes} {faults} {grows} {after} {piece} {old} {new} puts = puts.goes_on old [] took_nothing
+
+-- one piece more
+pub flat_map-push : {X : Type 0} (f : X → List ℕ) (xs : List X) (x : X) → flat_map f (xs ++ x ∷ []) ≡ flat_map f xs ++ f x
+flat_map-push f xs x = flat_map-append f xs (x ∷ []) ∙ ap (λ l. flat_map f xs ++ l) (append-nil (f x))

@@ -1,0 +1,10 @@
+//! Scripts as text that people read and write: a line an event.
+#![tactic(auto)]
+
+mod captured;
+mod line;
+mod showing;
+
+pub use captured::{FramesError, frames};
+pub use line::event_text;
+pub use showing::{ShowError, show};
