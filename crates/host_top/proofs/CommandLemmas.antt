@@ -10,7 +10,7 @@ use Rattle.net_host.proofs.SettingsLemmas.{defaults_accepted}
 use Rattle.net_wire.specs.declared.address.EthernetAddress.{EthernetAddress}
 use Rattle.host_top.specs.declared.command.Asked.{Asked}
 use Rattle.host_top.specs.declared.command.Command.{Command}
-use Rattle.host_top.specs.declared.command.Command.TheVariants.{Run, Make, Explain, Help, Disturb}
+use Rattle.host_top.specs.declared.command.Command.TheVariants.{Run, Make, Explain, Print, Help, Disturb, Serve}
 use Rattle.host_top.specs.declared.command.Keyword.{Keyword}
 use Rattle.host_top.specs.declared.command.Keyword.TheVariants as keyword
 use Rattle.host_top.specs.declared.command.MakeCommand.{MakeCommand}
@@ -18,14 +18,15 @@ use Rattle.host_top.specs.declared.command.RunCommand.{RunCommand}
 use Rattle.host_top.specs.declared.setting.RunSettings.{RunSettings}
 use Rattle.host_top.specs.declared.disturb_command.DisturbCommand.{DisturbCommand}
 use Rattle.host_top.specs.Disturb.{WritesDisturb, IsDisturbable}
-use Rattle.host_top.specs.declared.explain_command.ExplainCommand.{ExplainCommand}
-use Rattle.host_top.specs.Explain.{WritesExplain, IsExplainable}
+use Rattle.host_top.specs.declared.capture_command.CaptureCommand.{CaptureCommand}
+use Rattle.host_top.specs.Explain.{WritesCapture, IsReadable}
 use Rattle.host_top.specs.RunWords.{WritesRun, IsRunnable, settings_named}
 use Rattle.host_top.specs.MakeWords.{WritesMake, run_of_make}
 use Rattle.host_top.specs.Command.{IsKeyword, WritesAs, NameWork, NameLiveWork, CanBeLive, Names, AreNamed, command_asked, IsTaken, NamesOne, IsCommand}
-use Rattle.host_top.specs.HostMain.{Ask, AskForNoWork, AskToExplain}
+use Rattle.host_top.specs.HostMain.{Ask, AskForNoWork, AskOfCapture}
 use Rattle.host_top.specs.Setting.{Sets}
 use Rattle.host_top.proofs.OneSettingLemmas.{sets_one}
+use Rattle.host_top.proofs.ServeLemmas.{servable, writes_one_serve}
 use Rattle.host_top.proofs.SettingWordLemmas.{mtu_in_range}
 
 behind_three : {X : Type 0} (f : X → List ℕ) (words : List X) (a b c : List ℕ) (behind : List (List ℕ)) → map f words ≡ a ∷ b ∷ c ∷ behind
@@ -34,11 +35,6 @@ behind_three f [] a b c behind is = absurd (cc)
 behind_three f (x ∷ []) a b c behind is = absurd (cc)
 behind_three f (x ∷ y ∷ []) a b c behind is = absurd (cc)
 behind_three f (x ∷ y ∷ z ∷ words) a b c behind is = cc
-
-behind : List (List ℕ)) → map f words ≡ a ∷ behind
-    → behind ≡ map f (drop 1 words)
-behind_one f [] a behind is = absurd (cc)
-behind_one f (x ∷ words) a behind is = cc
 
 behind : {X : Type 0} (words : List X) (n : ℕ) → drop n words ≡ take (length words - n) (drop n words)
 behind words n = sym (take_all (length words - n) (drop n words) (omega (arith, length-drop n words)))
@@ -75,16 +71,20 @@ keyword_in word =
     cond (is_word word (codes "run")) (Some keyword.Run)
     (cond (is_word word (codes "make")) (Some keyword.Make)
     (cond (is_word word (codes "explain")) (Some keyword.Explain)
+    (cond (is_word word (codes "print")) (Some keyword.Print)
     (cond (is_word word (codes "disturb")) (Some keyword.Disturb)
+    (cond (is_word word (codes "serve")) (Some keyword.Serve)
     (cond (is_word word (codes "help")) (Some keyword.Help)
     (cond (is_word word (codes "--help")) (Some keyword.Help)
-    (cond (is_word word (codes "-h")) (Some keyword.Help) None))))))
+    (cond (is_word word (codes "-h")) (Some keyword.Help) None))))))))
 
 keyword_found : (word : List ℕ) (asked : Keyword) → IsKeyword word asked → keyword_in word ≡ Some asked
 keyword_found word keyword.Run is = ap keyword_in is
 keyword_found word keyword.Make is = ap keyword_in is
 keyword_found word keyword.Explain is = ap keyword_in is
+keyword_found word keyword.Print is = ap keyword_in is
 keyword_found word keyword.Disturb is = ap keyword_in is
+keyword_found word keyword.Serve is = ap keyword_in is
 keyword_found word keyword.Help (inl is) = ap keyword_in is
 keyword_found word keyword.Help (inr (inl is)) = ap keyword_in is
 keyword_found word keyword.Help (inr (inr is)) = ap keyword_in is
@@ -143,14 +143,14 @@ writes_one_make words one other first second =
     let count : one.count ≡ other.count = cc (first.are, second.are, first.count.writes.value, second.count.writes.value) in
     ap₂ make_made seed count
 
-explain_made : ℕ → ExplainCommand
-explain_made count = record { max_frames = count }
+capture_made : ℕ → CaptureCommand
+capture_made count = record { max_frames = count }
 
-writes_one_explain : (words : List (List ℕ)) (one other : ExplainCommand) → WritesExplain words one → WritesExplain words other → one ≡ other
-unfolding explain_made
-writes_one_explain words one other first second =
+writes_one_capture : (words : List (List ℕ)) (one other : CaptureCommand) → WritesCapture words one → WritesCapture words other → one ≡ other
+unfolding capture_made
+writes_one_capture words one other first second =
     let count : one.max_frames ≡ other.max_frames = cc (first.are, second.are, first.max.writes.value, second.max.writes.value) in
-    ap explain_made count
+    ap capture_made count
 
 disturb_made : RunCommand → ℕ → ℕ → ℕ → DisturbCommand
 disturb_made run seed drop corrupt = record { run = run; fault_seed = seed; drop_chance = drop; corrupt_chance = corrupt }
@@ -175,10 +175,14 @@ writes_same : (asked : Keyword) (words : List (List ℕ)) (one other : Command) 
 writes_same keyword.Run words one other (a, is, first) (b, also, second) = is ∙ ap Run (writes_one words a b first second) ∙ sym also
 writes_same keyword.Make words one other (a, is, first) (b, also, second) = is ∙ ap Make (writes_one_make words a b first second) ∙ sym also
 writes_same keyword.Explain words one other (a, is, first) (b, also, second) =
-    is ∙ ap Explain (writes_one_explain words a b first second) ∙ sym also
+    is ∙ ap Explain (writes_one_capture words a b first second) ∙ sym also
+writes_same keyword.Print words one other (a, is, first) (b, also, second) =
+    is ∙ ap Print (writes_one_capture words a b first second) ∙ sym also
 writes_same keyword.Help words one other (is, none) (also, nor) = is ∙ sym also
 writes_same keyword.Disturb words one other (a, is, first) (b, also, second) =
     is ∙ ap Disturb (writes_one_disturb words a b first second) ∙ sym also
+writes_same keyword.Serve words one other (a, is, first) (b, also, second) =
+    is ∙ ap Serve (writes_one_serve words a b first second) ∙ sym also
 
 pub one_work : (words : List (List ℕ)) (one other : Command) → NameWork words one → NameWork words other → one ≡ other
 one_work words one other first second =
@@ -241,8 +245,8 @@ runnable words run writes = record {
 makeable : (words : List (List ℕ)) (make : MakeCommand) → WritesMake words make → IsRunnable (run_of_make make)
 makeable words make writes = record { individual = refl; mtu = tt; some = writes.count.some; limit = writes.count.limit }
 
-explainable : (words : List (List ℕ)) (explain : ExplainCommand) → WritesExplain words explain → IsExplainable explain
-explainable words explain writes = record { some = writes.max.some; limit = writes.max.limit }
+readable : (words : List (List ℕ)) (capture : CaptureCommand) → WritesCapture words capture → IsReadable capture
+readable words capture writes = record { some = writes.max.some; limit = writes.max.limit }
 
 -- and so one over a bad link
 disturbable : (words : List (List ℕ)) (disturb : DisturbCommand) → WritesDisturb words disturb → IsDisturbable disturb
@@ -260,9 +264,11 @@ disturbable words disturb writes = record {
 written_command : (asked : Keyword) (words : List (List ℕ)) (command : Command) → WritesAs asked words command → IsCommand command
 written_command keyword.Run words command (run, is, writes) = subst IsCommand (sym is) (runnable words run writes)
 written_command keyword.Make words command (make, is, writes) = subst IsCommand (sym is) (makeable words make writes)
-written_command keyword.Explain words command (explain, is, writes) = subst IsCommand (sym is) (explainable words explain writes)
+written_command keyword.Explain words command (capture, is, writes) = subst IsCommand (sym is) (readable words capture writes)
+written_command keyword.Print words command (capture, is, writes) = subst IsCommand (sym is) (readable words capture writes)
 written_command keyword.Help words command (is, none) = subst IsCommand (sym is) tt
 written_command keyword.Disturb words command (disturb, is, writes) = subst IsCommand (sym is) (disturbable words disturb writes)
+written_command keyword.Serve words command (serve, is, writes) = subst IsCommand (sym is) (servable words serve writes)
 
 work_command : (words : List (List ℕ)) (command : Command) → NameWork words command → IsCommand command
 work_command words command named = written_command named.keyword named.behind command named.writes
@@ -285,10 +291,10 @@ pub asked_by : (words : List (List ℕ)) (asked : Option Asked) → IfSome asked
 asked_by words None found refuses = refuses
 asked_by words (Some asked) found refuses = are_names words asked found
 
--- words that name an explanation ask for that
-pub explain_asked : (words : List (List ℕ)) (asked : Option Command) (named : AskToExplain words) → Ask words asked → asked ≡ Some (Explain named.0)
-explain_asked words None named none = absurd (none (Explain named.0, inl named.1))
-explain_asked words (Some command) named asks = ap Some (names_one words command (Explain named.0) asks (inl named.1))
+-- words that name a reading of a capture ask for that
+pub asked_of_capture : (words : List (List ℕ)) (asked : Option Command) (named : AskOfCapture words) → Ask words asked → asked ≡ Some named.0
+asked_of_capture words None named none = absurd (none (named.0, inl named.1.1))
+asked_of_capture words (Some command) named asks = ap Some (names_one words command named.0 asks (inl named.1.1))
 
 mtu_or_default : (value : Option ℕ) → IfSome value (λ bytes. (576 ≤ bytes) × (bytes ≤ 1500))
     → (576 ≤ unwrap_or value 1500) × (unwrap_or value 1500 ≤ 1500)

@@ -1,5 +1,5 @@
 -- What the status says of how a command ended.
-use Rattle.std.proofs.Common.{◌≡◌, ℕ, ◌*◌, List, length, Option, Some, None, Result, Ok, Err, IfSome, inl, inr, refl, sym, ap, ◌∙◌, arith}
+use Rattle.std.proofs.Common.{◌≡◌, ℕ, ◌*◌, List, length, Option, Some, None, Result, Ok, Err, OnOk, IfErr, IfSome, inl, inr, refl, sym, ap, ◌∙◌, arith}
 use Rattle.wire_base.specs.Causes.{IsRisen}
 use Rattle.host_model.specs.Script.{Event}
 use Rattle.host_model.specs.Classes.{IsScript, IsBrokenAt, IsOverLimit}
@@ -10,15 +10,23 @@ use Rattle.net_host.specs.declared.report.Row.{Row}
 use Rattle.net_host.specs.Outside.{Outside}
 use Rattle.net_host.specs.Run.{Task, HasFewWords}
 use Rattle.host_top.specs.declared.command.Command.{Command}
-use Rattle.host_top.specs.declared.command.Command.TheVariants.{Run, Make, Explain, Help, Disturb}
+use Rattle.host_top.specs.declared.command.Command.TheVariants.{Run, Make, Explain, Print, Help, Disturb, Serve}
 use Rattle.host_top.specs.declared.ending.Ending.{Ending}
 use Rattle.host_top.specs.declared.ending.Ending.TheVariants.{Done, Refused, Script, Limit, Entry, FrameLimit, Read, Capture, NoMemory}
 use Rattle.host_top.specs.Command.{IsTaken}
 use Rattle.host_top.specs.Ending.{status_of, status_after}
-use Rattle.host_top.specs.HostMain.{ForNamed, IsComplete, EndedAs, Ask, HasEnded}
-use Rattle.capture_explain.specs.Capture.{CaptureEntry, IsCaptureFile}
+use Rattle.host_top.specs.HostMain.{ForNamed, IsComplete, IsDoneIfCapture, EndedAs, Ask, HasEnded}
+use Rattle.capture_explain.specs.Rows.{TellsRows}
+use Rattle.server_run.specs.declared.report.ServeRow.{ServeRow}
+use Rattle.server_run.specs.declared.serve_error.ServeError.{ServeError}
+use Rattle.server_run.specs.declared.serve_error.ServeError.TheVariants as error
+use Rattle.server_run.specs.Served.{Finished as IsServed, HasCause}
+use Rattle.host_top.specs.declared.serve_command.ServeCommand.{ServeCommand}
+use Rattle.host_top.specs.Explain.{TellsLines}
+use Rattle.host_top.specs.Serve.{ending_served, values_named}
 use Rattle.host_top.specs.Status.{ComesExactly, IsStatusOf, IsUnlessNoMemory}
 use Rattle.host_top.proofs.ExplainLemmas.{explain_complete, explain_unrefused}
+use Rattle.host_top.proofs.ServeLemmas.{serve_unrefused}
 
 -- how what the words ask for ended, what the output answered, and the status
 pub record Answered (words : List (List ℕ)) (asked : Option Command) (before after : Outside) (report : List Row) (ending : Ending)
@@ -34,9 +42,12 @@ not_refused command before after report Done text ended is = omega arith
 not_refused (Run run) before after report Refused text ended is = ended.ran
 not_refused (Make make) before after report Refused text ended is = ended.may
 not_refused (Explain explain) before after report Refused text ended is =
-    explain_unrefused explain.max_frames before.left after.left before.read_faults after.read_faults ended.rows Refused ended.explains is
+    explain_unrefused explain.max_frames before.left after.left before.read_faults after.read_faults (TellsRows ended.rows) Refused ended.explains is
+not_refused (Print print) before after report Refused text ended is =
+    explain_unrefused print.max_frames before.left after.left before.read_faults after.read_faults (TellsLines ended.lines) Refused ended.prints is
 not_refused Help before after report Refused text ended is = omega (arith, ap status_of ended.done)
 not_refused (Disturb disturb) before after report Refused text ended is = ended.ran
+not_refused (Serve serve) before after report Refused text ended is = serve_unrefused serve before after ended.rows Refused ended.serves is
 not_refused command before after report (Script offset) text ended is = omega arith
 not_refused command before after report Limit text ended is = omega arith
 not_refused command before after report (Entry offset) text ended is = omega arith
@@ -96,6 +107,21 @@ long_script (Some bytes) max result over is = record {
   over = λ _. inl is;
 }
 
+complete_served : (serve : ServeCommand) (before after : Outside) (rows : List ServeRow) (result : ℕ) (answer : Result (Unit {0}) ServeError)
+    → OnOk answer (IsServed (values_named serve) serve.max_events before after rows) → IfErr answer (HasCause serve.max_events before after)
+    → result ≡ status_of (ending_served answer) → (IsRisen before.read_faults after.read_faults → ⊥)
+    → (IsRisen before.capture_faults after.capture_faults → ⊥) → IfSome before.left (IsStatusOf serve.max_events result)
+complete_served serve before after rows result (Ok _) finished cause is read capture =
+    valid_script before.left serve.max_events finished.events result finished.script is
+complete_served serve before after rows result (Err (error.Script offset)) finished cause is read capture =
+    broken_script before.left serve.max_events offset result cause.0 is
+complete_served serve before after rows result (Err error.Limit) finished cause is read capture =
+    long_script before.left serve.max_events result cause.0 is
+complete_served serve before after rows result (Err error.Read) finished cause is read capture = absurd (read cause.0)
+complete_served serve before after rows result (Err error.Sink) finished cause is read capture = absurd (capture cause.0)
+complete_served serve before after rows result (Err error.NoMemory) finished cause is read capture =
+    no_memory before.left serve.max_events result is
+
 complete_of : (command : Command) (before after : Outside) (report : List Row) (ending : Ending) (text : List ℕ) (result : ℕ)
     → EndedAs command before after report ending text → result ≡ status_of ending
     → (IsRisen before.read_faults after.read_faults → ⊥) → (IsRisen before.capture_faults after.capture_faults → ⊥)
@@ -121,7 +147,11 @@ complete_of (Make make) before after report Read text result ended is read captu
 complete_of (Make make) before after report Capture text result ended is read capture = absurd (capture ended.left.left.1.0)
 complete_of (Make make) before after report NoMemory text result ended is read capture = inr is
 complete_of (Explain explain) before after report ending text result ended is read capture =
-    explain_complete explain.max_frames before.left after.left before.read_faults after.read_faults ended.rows ending result ended.explains is read
+    explain_complete explain.max_frames before.left after.left before.read_faults after.read_faults (TellsRows ended.rows) ending result ended.explains is read
+complete_of (Print print) before after report ending text result ended is read capture =
+    explain_complete print.max_frames before.left after.left before.read_faults after.read_faults (TellsLines ended.lines) ending result ended.prints is read
+complete_of (Serve serve) before after report ending text result ended is read capture =
+    complete_served serve before after ended.rows result ended.serves.answer ended.serves.finished ended.serves.cause (is ∙ ap status_of ended.serves.ends) read capture
 complete_of Help before after report ending text result ended is read capture = inl (is ∙ ap status_of ended.done)
 complete_of (Disturb disturb) before after report Done text result ended is read capture =
     valid_script before.left disturb.run.max_events ended.ran.0.events result ended.ran.0.script is
@@ -138,7 +168,7 @@ complete_of (Disturb disturb) before after report NoMemory text result ended is 
     no_memory before.left disturb.run.max_events result is
 
 unless_no_memory : (max : ℕ) (left : Option (List ℕ)) (result : ℕ) → result ≡ 7
-    → IfSome left (λ bytes. (entries : List CaptureEntry) → IsCaptureFile max bytes entries → IsUnlessNoMemory 0 result)
+    → IfSome left (IsDoneIfCapture max result)
 unless_no_memory max None result is = tt
 unless_no_memory max (Some bytes) result is = λ entries file. inr is
 
@@ -146,8 +176,10 @@ complete_at_7 : (command : Command) (before : Outside) (result : ℕ) → result
 complete_at_7 (Run run) before result is = no_memory before.left run.max_events result is
 complete_at_7 (Make make) before result is = inr is
 complete_at_7 (Explain explain) before result is = unless_no_memory explain.max_frames before.left result is
+complete_at_7 (Print print) before result is = unless_no_memory print.max_frames before.left result is
 complete_at_7 Help before result is = inr is
 complete_at_7 (Disturb disturb) before result is = no_memory before.left disturb.run.max_events result is
+complete_at_7 (Serve serve) before result is = no_memory before.left serve.max_events result is
 
 complete_at : (words : List (List ℕ)) (asked : Option Command) (before after : Outside) (report : List Row) (ending : Ending) (text : List ℕ)
     (answer : Result (Unit {0}) SinkError) (result : ℕ) → Ask words asked → HasEnded asked before after report ending text

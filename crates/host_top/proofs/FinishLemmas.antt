@@ -1,18 +1,22 @@
 -- What each command finishes with.
-use Rattle.std.proofs.Common.{◌≡◌, List, [], ◌++◌, Some, None, refl}
+use Rattle.std.proofs.Common.{◌≡◌, ℕ, List, [], ◌++◌, Some, None, refl}
 use Rattle.phy_layers.specs.declared.byte_sink.ByteSink as byte_sink
 use Rattle.phy_layers.specs.Sink.{Took}
 use Rattle.script_source.specs.declared.source.ScriptSource as script_source
 use Rattle.net_host.specs.declared.report.Row.{Row}
 use Rattle.net_host.specs.Outside.{Outside, outside_of}
-use Rattle.host_top.specs.declared.command.Command.TheVariants.{Run, Make, Explain, Help, Disturb}
+use Rattle.host_top.specs.declared.command.Command.TheVariants.{Run, Make, Explain, Print, Help, Disturb, Serve}
 use Rattle.host_top.specs.declared.command.MakeCommand.{MakeCommand}
 use Rattle.host_top.specs.declared.command.RunCommand.{RunCommand}
 use Rattle.host_top.specs.declared.disturb_command.DisturbCommand.{DisturbCommand}
 use Rattle.host_top.specs.declared.ending.Ending.TheVariants.{Done, Refused}
 use Rattle.host_top.specs.declared.ending.Finish.{Finish}
-use Rattle.host_top.specs.declared.explain_command.ExplainCommand.{ExplainCommand}
-use Rattle.host_top.specs.Explain.{ExplainsAs}
+use Rattle.host_top.specs.declared.capture_command.CaptureCommand.{CaptureCommand}
+use Rattle.server_run.specs.declared.report.ServeRow.{ServeRow}
+use Rattle.host_top.specs.declared.serve_command.ServeCommand.{ServeCommand}
+use Rattle.host_top.specs.Explain.{ExplainsAs, PrintsAs}
+use Rattle.host_top.specs.Serve.{ServesAs}
+use Rattle.host_top.specs.ServeText.{serve_bytes}
 use Rattle.capture_explain.specs.declared.explanation.ExplainRow.{ExplainRow}
 use Rattle.capture_explain.specs.ExplainText.{explanation_bytes}
 use Rattle.host_top.specs.Disturb.{DisturbedTo}
@@ -86,7 +90,7 @@ finishes_refused {O} sink before report finish old new empty refused took = reco
 
 -- nothing is captured or reported where a capture is explained
 pub finishes_explain : {S C O : Type 0} (source : script_source.Ghosts S) (captures : byte_sink.Ghosts C) (sink : byte_sink.Ghosts O)
-    (explain : ExplainCommand) (first last : S) (capture : C) (report : List Row) (rows : List ExplainRow) (finish : Finish) (old new : O)
+    (explain : CaptureCommand) (first last : S) (capture : C) (report : List Row) (rows : List ExplainRow) (finish : Finish) (old new : O)
     → report ≡ []
     → ExplainsAs explain.max_frames (source.left first) (source.left last) (source.faults first) (source.faults last) rows finish.ending
     → Took sink.bytes sink.faults sink.grows finish.answer (explanation_bytes rows ++ last_line finish.ending) old new
@@ -99,5 +103,33 @@ finishes_explain {S} {C} {O} source captures sink explain first last capture rep
     uncaptured = record { captured = refl; faults = refl; empty = empty };
     says = refl;
   };
+  took = took;
+}
+
+pub finishes_print : {S C O : Type 0} (source : script_source.Ghosts S) (captures : byte_sink.Ghosts C) (sink : byte_sink.Ghosts O)
+    (print : CaptureCommand) (first last : S) (capture : C) (report : List Row) (lines : List ℕ) (finish : Finish) (old new : O)
+    → report ≡ []
+    → PrintsAs print.max_frames (source.left first) (source.left last) (source.faults first) (source.faults last) lines finish.ending
+    → Took sink.bytes sink.faults sink.grows finish.answer (lines ++ last_line finish.ending) old new
+    → Finishes sink (Some (Print print)) (outside_of source captures first capture) (outside_of source captures last capture) report finish old new
+finishes_print {S} {C} {O} source captures sink print first last capture report lines finish old new empty prints took = record {
+  text = lines ++ last_line finish.ending;
+  ended = record {
+    lines = lines;
+    prints = prints;
+    uncaptured = record { captured = refl; faults = refl; empty = empty };
+    says = refl;
+  };
+  took = took;
+}
+
+-- the host has no report where leases are served
+pub finishes_serve : {O : Type 0} (sink : byte_sink.Ghosts O) (serve : ServeCommand) (before after : Outside) (report : List Row)
+    (rows : List ServeRow) (finish : Finish) (old new : O) → report ≡ [] → ServesAs serve before after rows finish.ending
+    → Took sink.bytes sink.faults sink.grows finish.answer (serve_bytes rows ++ last_line finish.ending) old new
+    → Finishes sink (Some (Serve serve)) before after report finish old new
+finishes_serve {O} sink serve before after report rows finish old new empty serves took = record {
+  text = serve_bytes rows ++ last_line finish.ending;
+  ended = record { rows = rows; serves = serves; empty = empty; says = refl };
   took = took;
 }

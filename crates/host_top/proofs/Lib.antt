@@ -9,6 +9,7 @@ pub mod FinishLemmas
 pub mod HexLemmas
 pub mod Ipv4WordLemmas
 pub mod JoinLemmas
+pub mod LineLemmas
 pub mod MakingLemmas
 pub mod OneSettingLemmas
 pub mod PrintedLemmas

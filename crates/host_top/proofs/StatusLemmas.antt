@@ -7,13 +7,16 @@ use Rattle.phy_layers.specs.declared.byte_sink.SinkError.TheVariants as sink
 use Rattle.net_host.specs.declared.report.Row.{Row}
 use Rattle.net_host.specs.Outside.{Outside, IsQuiet}
 use Rattle.host_top.specs.declared.command.Command.{Command}
-use Rattle.host_top.specs.declared.command.Command.TheVariants.{Run, Make, Explain, Help, Disturb}
+use Rattle.host_top.specs.declared.command.Command.TheVariants.{Run, Make, Explain, Print, Help, Disturb, Serve}
 use Rattle.host_top.specs.declared.ending.Ending.{Ending}
 use Rattle.host_top.specs.declared.ending.Ending.TheVariants.{Done, Script, Limit, Entry, FrameLimit, Read, Capture}
 use Rattle.host_top.specs.Ending.{status_of, status_after}
 use Rattle.host_top.specs.HostMain.{ForNamed, IsDone, HasBrokenScript, HasLongScript, EndedAs, Ask, HasEnded}
 use Rattle.host_top.proofs.EndingLemmas.{Answered}
+use Rattle.capture_explain.specs.Rows.{TellsRows}
+use Rattle.host_top.specs.Explain.{TellsLines}
 use Rattle.host_top.proofs.ExplainLemmas.{explain_broken, explain_done, explain_long, explain_read, explain_uncaptured}
+use Rattle.host_top.proofs.ServeLemmas.{serve_broken, serve_captured, serve_done, serve_long, serve_read}
 
 -- what 0, 2, 3, 4 and 5 say
 done_of : (command : Command) (before after : Outside) (report : List Row) (text : List ℕ) → EndedAs command before after report Done text
@@ -26,8 +29,14 @@ done_of (Make make) before after report text ended =
     )
 done_of (Disturb disturb) before after report text ended = ended.ran
 done_of (Explain explain) before after report text ended =
-    let done = explain_done explain.max_frames before.left after.left before.read_faults after.read_faults ended.rows Done ended.explains (λ i. 0) in
+    let done = explain_done explain.max_frames before.left after.left before.read_faults after.read_faults (TellsRows ended.rows) Done ended.explains (λ i. 0) in
     ((ended.uncaptured.empty, ended.rows, done.0), record { source = done.1; capture = ended.uncaptured.faults })
+done_of (Print print) before after report text ended =
+    let done = explain_done print.max_frames before.left after.left before.read_faults after.read_faults (TellsLines ended.lines) Done ended.prints (λ i. 0) in
+    ((ended.uncaptured.empty, ended.lines, done.0), record { source = done.1; capture = ended.uncaptured.faults })
+done_of (Serve serve) before after report text ended =
+    let done = serve_done serve before after ended.rows Done ended.serves (λ i. 0) in
+    ((ended.empty, ended.rows, done.0), done.1)
 done_of Help before after report text ended =
     (ended.empty, record { source = ap (λ o. o.read_faults) ended.same; capture = ap (λ o. o.capture_faults) ended.same })
 
@@ -46,14 +55,21 @@ broken_of : (command : Command) (before after : Outside) (report : List Row) (of
 broken_of (Run run) before after report offset text ended = at_some_place run.max_events offset before.left ended.ran.1.0
 broken_of (Make make) before after report offset text ended = absurd ended.may
 broken_of (Disturb disturb) before after report offset text ended = at_some_place disturb.run.max_events offset before.left ended.ran.1.0
+broken_of (Serve serve) before after report offset text ended =
+    serve_broken serve before after ended.rows (Script offset) ended.serves (λ i. 2)
 broken_of (Explain explain) before after report offset text ended =
-    explain_broken explain.max_frames before.left after.left before.read_faults after.read_faults ended.rows (Script offset) ended.explains (λ i. 2)
+    explain_broken explain.max_frames before.left after.left before.read_faults after.read_faults (TellsRows ended.rows) (Script offset) ended.explains (λ i. 2)
+broken_of (Print print) before after report offset text ended =
+    explain_broken print.max_frames before.left after.left before.read_faults after.read_faults (TellsLines ended.lines) (Script offset) ended.prints (λ i. 2)
 broken_of Help before after report offset text ended = omega (arith, ap status_of ended.done)
 
 broken_at : (command : Command) (before after : Outside) (report : List Row) (ending : Ending) (text : List ℕ)
     → EndedAs command before after report ending text → status_of ending ≡ 2 → HasBrokenScript command before
 broken_at (Explain explain) before after report ending text ended same =
-    explain_broken explain.max_frames before.left after.left before.read_faults after.read_faults ended.rows ending ended.explains same
+    explain_broken explain.max_frames before.left after.left before.read_faults after.read_faults (TellsRows ended.rows) ending ended.explains same
+broken_at (Print print) before after report ending text ended same =
+    explain_broken print.max_frames before.left after.left before.read_faults after.read_faults (TellsLines ended.lines) ending ended.prints same
+broken_at (Serve serve) before after report ending text ended same = serve_broken serve before after ended.rows ending ended.serves same
 broken_at command before after report (Script offset) text ended same = broken_of command before after report offset text ended
 broken_at (Run run) before after report (Entry offset) text ended same = absurd ended.ran
 broken_at (Make make) before after report (Entry offset) text ended same = absurd ended.may
@@ -66,14 +82,20 @@ long_of : (command : Command) (before after : Outside) (report : List Row) (text
 long_of (Run run) before after report text ended = ended.ran.1.0
 long_of (Make make) before after report text ended = absurd ended.may
 long_of (Disturb disturb) before after report text ended = ended.ran.1.0
+long_of (Serve serve) before after report text ended = serve_long serve before after ended.rows Limit ended.serves (λ i. 3)
 long_of (Explain explain) before after report text ended =
-    explain_long explain.max_frames before.left after.left before.read_faults after.read_faults ended.rows Limit ended.explains (λ i. 3)
+    explain_long explain.max_frames before.left after.left before.read_faults after.read_faults (TellsRows ended.rows) Limit ended.explains (λ i. 3)
+long_of (Print print) before after report text ended =
+    explain_long print.max_frames before.left after.left before.read_faults after.read_faults (TellsLines ended.lines) Limit ended.prints (λ i. 3)
 long_of Help before after report text ended = omega (arith, ap status_of ended.done)
 
 long_at : (command : Command) (before after : Outside) (report : List Row) (ending : Ending) (text : List ℕ)
     → EndedAs command before after report ending text → status_of ending ≡ 3 → HasLongScript command before
 long_at (Explain explain) before after report ending text ended same =
-    explain_long explain.max_frames before.left after.left before.read_faults after.read_faults ended.rows ending ended.explains same
+    explain_long explain.max_frames before.left after.left before.read_faults after.read_faults (TellsRows ended.rows) ending ended.explains same
+long_at (Print print) before after report ending text ended same =
+    explain_long print.max_frames before.left after.left before.read_faults after.read_faults (TellsLines ended.lines) ending ended.prints same
+long_at (Serve serve) before after report ending text ended same = serve_long serve before after ended.rows ending ended.serves same
 long_at command before after report Limit text ended same = long_of command before after report text ended
 long_at (Run run) before after report FrameLimit text ended same = absurd ended.ran
 long_at (Make make) before after report FrameLimit text ended same = absurd ended.may
@@ -86,8 +108,11 @@ read_of : (command : Command) (before after : Outside) (report : List Row) (text
 read_of (Run run) before after report text ended = ended.ran.1.0
 read_of (Make make) before after report text ended = absurd ended.may
 read_of (Disturb disturb) before after report text ended = ended.ran.1.0
+read_of (Serve serve) before after report text ended = serve_read serve before after ended.rows Read ended.serves (λ i. 4)
 read_of (Explain explain) before after report text ended =
-    explain_read explain.max_frames before.left after.left before.read_faults after.read_faults ended.rows Read ended.explains (λ i. 4)
+    explain_read explain.max_frames before.left after.left before.read_faults after.read_faults (TellsRows ended.rows) Read ended.explains (λ i. 4)
+read_of (Print print) before after report text ended =
+    explain_read print.max_frames before.left after.left before.read_faults after.read_faults (TellsLines ended.lines) Read ended.prints (λ i. 4)
 read_of Help before after report text ended = absurd (omega (arith, ap status_of ended.done))
 
 read_at : (command : Command) (before after : Outside) (report : List Row) (ending : Ending) (text : List ℕ)
@@ -100,8 +125,11 @@ capture_of : (command : Command) (before after : Outside) (report : List Row) (t
 capture_of (Run run) before after report text ended = ended.ran.1.0
 capture_of (Make make) before after report text ended = ended.left.left.1.0
 capture_of (Disturb disturb) before after report text ended = ended.ran.1.0
+capture_of (Serve serve) before after report text ended = serve_captured serve before after ended.rows Capture ended.serves (λ i. 5)
 capture_of (Explain explain) before after report text ended =
-    absurd (explain_uncaptured explain.max_frames before.left after.left before.read_faults after.read_faults ended.rows Capture ended.explains (λ i. 5))
+    absurd (explain_uncaptured explain.max_frames before.left after.left before.read_faults after.read_faults (TellsRows ended.rows) Capture ended.explains (λ i. 5))
+capture_of (Print print) before after report text ended =
+    absurd (explain_uncaptured print.max_frames before.left after.left before.read_faults after.read_faults (TellsLines ended.lines) Capture ended.prints (λ i. 5))
 capture_of Help before after report text ended = absurd (omega (arith, ap status_of ended.done))
 
 capture_at : (command : Command) (before after : Outside) (report : List Row) (ending : Ending) (text : List ℕ)

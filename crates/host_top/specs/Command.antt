@@ -2,17 +2,19 @@
 use Rattle.std.specs.Prelude.{◌≡◌, ℕ, ◌⊎◌, ⊤, true, false, List, [], ◌∷◌, Option, option_map, codes}
 use Rattle.host_top.specs.declared.command.Asked.{Asked}
 use Rattle.host_top.specs.declared.command.Command.{Command}
-use Rattle.host_top.specs.declared.command.Command.TheVariants.{Run, Make, Explain, Help, Disturb}
+use Rattle.host_top.specs.declared.command.Command.TheVariants.{Run, Make, Explain, Print, Help, Disturb, Serve}
 use Rattle.host_top.specs.declared.command.Keyword.{Keyword}
 use Rattle.host_top.specs.declared.command.Keyword.TheVariants as keyword
 use Rattle.host_top.specs.declared.command.MakeCommand.{MakeCommand}
 use Rattle.host_top.specs.declared.command.RunCommand.{RunCommand}
 use Rattle.host_top.specs.declared.disturb_command.DisturbCommand.{DisturbCommand}
-use Rattle.host_top.specs.declared.explain_command.ExplainCommand.{ExplainCommand}
+use Rattle.host_top.specs.declared.capture_command.CaptureCommand.{CaptureCommand}
 use Rattle.host_top.specs.Disturb.{WritesDisturb, IsDisturbable}
-use Rattle.host_top.specs.Explain.{WritesExplain, IsExplainable}
+use Rattle.host_top.specs.Explain.{WritesCapture, IsReadable}
 use Rattle.host_top.specs.MakeWords.{WritesMake, run_of_make}
 use Rattle.host_top.specs.RunWords.{WritesRun, IsRunnable}
+use Rattle.host_top.specs.Serve.{WritesServe, IsServable}
+use Rattle.host_top.specs.declared.serve_command.ServeCommand.{ServeCommand}
 
 -- a word that asks how the program is used
 abbrev pub IsHelpWord : List ℕ → Type 0
@@ -23,16 +25,20 @@ abbrev pub IsKeyword : List ℕ → Keyword → Type 0
 IsKeyword word keyword.Run = word ≡ codes "run"
 IsKeyword word keyword.Make = word ≡ codes "make"
 IsKeyword word keyword.Explain = word ≡ codes "explain"
+IsKeyword word keyword.Print = word ≡ codes "print"
 IsKeyword word keyword.Help = IsHelpWord word
 IsKeyword word keyword.Disturb = word ≡ codes "disturb"
+IsKeyword word keyword.Serve = word ≡ codes "serve"
 
 -- what the words behind the first one say that the command is, by what the first one asks for
 abbrev pub WritesAs : Keyword → List (List ℕ) → Command → Type 0
 WritesAs keyword.Run words command = (run : RunCommand) × (command ≡ Run run) × WritesRun words run
 WritesAs keyword.Make words command = (make : MakeCommand) × (command ≡ Make make) × WritesMake words make
-WritesAs keyword.Explain words command = (explain : ExplainCommand) × (command ≡ Explain explain) × WritesExplain words explain
+WritesAs keyword.Explain words command = (capture : CaptureCommand) × (command ≡ Explain capture) × WritesCapture words capture
+WritesAs keyword.Print words command = (capture : CaptureCommand) × (command ≡ Print capture) × WritesCapture words capture
 WritesAs keyword.Help words command = (command ≡ Help) × (words ≡ [])
 WritesAs keyword.Disturb words command = (disturb : DisturbCommand) × (command ≡ Disturb disturb) × WritesDisturb words disturb
+WritesAs keyword.Serve words command = (serve : ServeCommand) × (command ≡ Serve serve) × WritesServe words serve
 
 -- the words name the command
 pub record NameWork (words : List (List ℕ)) (command : Command) : Type 0 where
@@ -47,9 +53,11 @@ pub record NameWork (words : List (List ℕ)) (command : Command) : Type 0 where
 abbrev pub CanBeLive : Command → Type 0
 CanBeLive (Run run) = ⊤
 CanBeLive (Make make) = ⊥
-CanBeLive (Explain explain) = ⊥
+CanBeLive (Explain capture) = ⊥
+CanBeLive (Print capture) = ⊥
 CanBeLive Help = ⊥
 CanBeLive (Disturb disturb) = ⊤
+CanBeLive (Serve serve) = ⊤
 
 -- the words name such a command
 pub record NameLiveWork (words : List (List ℕ)) (command : Command) : Type 0 where
@@ -88,6 +96,8 @@ NamesOne = (words : List (List ℕ)) (one other : Command) → Names words one �
 abbrev pub IsCommand : Command → Type 0
 IsCommand (Run run) = IsRunnable run
 IsCommand (Make make) = IsRunnable (run_of_make make)
-IsCommand (Explain explain) = IsExplainable explain
+IsCommand (Explain capture) = IsReadable capture
+IsCommand (Print capture) = IsReadable capture
 IsCommand Help = ⊤
 IsCommand (Disturb disturb) = IsDisturbable disturb
+IsCommand (Serve serve) = IsServable serve

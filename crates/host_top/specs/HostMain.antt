@@ -1,5 +1,5 @@
 -- What the program does, by the words, the script and what the outside tells.
-use Rattle.std.specs.Prelude.{◌≡◌, ℕ, ◌⊎◌, List, [], ◌++◌, Option, Some, None, IfSome}
+use Rattle.std.specs.Prelude.{◌≡◌, ℕ, ◌⊎◌, ⊤, List, [], ◌++◌, Option, Some, None, IfSome}
 use Rattle.host_model.specs.Classes.{IsBrokenAt, IsOverLimit}
 use Rattle.phy_layers.specs.declared.byte_sink.ByteSink as byte_sink
 use Rattle.phy_layers.specs.Sink.{Took}
@@ -9,10 +9,11 @@ use Rattle.net_host.specs.Run.{Finished}
 use Rattle.capture_explain.specs.declared.explanation.ExplainRow.{ExplainRow}
 use Rattle.capture_explain.specs.Capture.{IsCaptureFile, CaptureEntry, HasNoHeader}
 use Rattle.capture_explain.specs.Capture.{IsBrokenAt as IsBrokenCapture, IsOverLimit as IsLongCapture}
-use Rattle.capture_explain.specs.Explained.{Explained}
+use Rattle.capture_explain.specs.Explained.{ReadsWhole}
+use Rattle.capture_explain.specs.Rows.{TellsRows}
 use Rattle.capture_explain.specs.ExplainText.{explanation_bytes}
 use Rattle.host_top.specs.declared.command.Command.{Command}
-use Rattle.host_top.specs.declared.command.Command.TheVariants.{Run, Make, Explain, Help, Disturb}
+use Rattle.host_top.specs.declared.command.Command.TheVariants.{Run, Make, Explain, Print, Help, Disturb, Serve}
 use Rattle.host_top.specs.declared.command.MakeCommand.{MakeCommand}
 use Rattle.host_top.specs.declared.command.RunCommand.{RunCommand}
 use Rattle.host_top.specs.declared.ending.Ending.{Ending}
@@ -21,14 +22,19 @@ use Rattle.host_top.specs.declared.ending.Finish.{Finish}
 use Rattle.host_top.specs.Command.{Names, NameWork, IsTaken}
 use Rattle.host_top.specs.MakeWords.{run_of_make}
 use Rattle.host_top.specs.declared.disturb_command.DisturbCommand.{DisturbCommand}
-use Rattle.host_top.specs.declared.explain_command.ExplainCommand.{ExplainCommand}
+use Rattle.host_top.specs.declared.capture_command.CaptureCommand.{CaptureCommand}
 use Rattle.host_top.specs.Disturb.{DisturbedTo, task_disturbed}
 use Rattle.host_top.specs.Ending.{last_line}
-use Rattle.host_top.specs.Explain.{ExplainsAs}
+use Rattle.host_top.specs.Explain.{ExplainsAs, PrintsAs, TellsLines}
 use Rattle.host_top.specs.Making.{IsLeftByMade, IsEndingOfMade}
 use Rattle.host_top.specs.Printing.{summed_up}
 use Rattle.host_top.specs.Ran.{task_named, RanTo}
 use Rattle.host_top.specs.ReportText.{report_bytes}
+use Rattle.server_run.specs.declared.report.ServeRow.{ServeRow}
+use Rattle.server_run.specs.Served.{Finished as IsServed}
+use Rattle.host_top.specs.declared.serve_command.ServeCommand.{ServeCommand}
+use Rattle.host_top.specs.Serve.{ServesAs, values_named}
+use Rattle.host_top.specs.ServeText.{serve_bytes}
 use Rattle.host_top.specs.Status.{IsStatusOf, IsUnlessNoMemory}
 use Rattle.host_top.specs.Usage.{help_text}
 
@@ -62,12 +68,28 @@ pub record IsUncaptured (before after : Outside) (report : List Row) : Type 0 wh
   pub empty : report ≡ []
 
 -- An explanation of a capture ended so, and what is printed of it: the rows and the last line.
-pub record EndedExplain (explain : ExplainCommand) (before after : Outside) (report : List Row) (ending : Ending)
+pub record EndedExplain (capture : CaptureCommand) (before after : Outside) (report : List Row) (ending : Ending)
     (text : List ℕ) : Type 0 where
   pub rows : List ExplainRow
-  pub explains : ExplainsAs explain.max_frames before.left after.left before.read_faults after.read_faults rows ending
+  pub explains : ExplainsAs capture.max_frames before.left after.left before.read_faults after.read_faults rows ending
   pub uncaptured : IsUncaptured before after report
   pub says : text ≡ explanation_bytes rows ++ last_line ending
+
+-- A printing of a capture ended so, and its text: that of the entries and the last line.
+pub record EndedPrint (capture : CaptureCommand) (before after : Outside) (report : List Row) (ending : Ending)
+    (text : List ℕ) : Type 0 where
+  pub lines : List ℕ
+  pub prints : PrintsAs capture.max_frames before.left after.left before.read_faults after.read_faults lines ending
+  pub uncaptured : IsUncaptured before after report
+  pub says : text ≡ lines ++ last_line ending
+
+-- A lease server ended so, and what is printed of it: its rows and the last line. The host has no report.
+pub record EndedServe (serve : ServeCommand) (before after : Outside) (report : List Row) (ending : Ending)
+    (text : List ℕ) : Type 0 where
+  pub rows : List ServeRow
+  pub serves : ServesAs serve before after rows ending
+  pub empty : report ≡ []
+  pub says : text ≡ serve_bytes rows ++ last_line ending
 
 -- how the program is used was printed, and nothing else was done
 pub record EndedHelp (before after : Outside) (report : List Row) (ending : Ending) (text : List ℕ) : Type 0 where
@@ -80,9 +102,11 @@ pub record EndedHelp (before after : Outside) (report : List Row) (ending : Endi
 abbrev pub EndedAs : Command → Outside → Outside → List Row → Ending → List ℕ → Type 0
 EndedAs (Run run) before after report ending text = EndedRun run before after report ending text
 EndedAs (Make make) before after report ending text = EndedMake make before after report ending text
-EndedAs (Explain explain) before after report ending text = EndedExplain explain before after report ending text
+EndedAs (Explain capture) before after report ending text = EndedExplain capture before after report ending text
+EndedAs (Print capture) before after report ending text = EndedPrint capture before after report ending text
 EndedAs Help before after report ending text = EndedHelp before after report ending text
 EndedAs (Disturb disturb) before after report ending text = EndedDisturb disturb before after report ending text
+EndedAs (Serve serve) before after report ending text = EndedServe serve before after report ending text
 
 -- words that name no command: the last line says how the program is used, and nothing is reported
 pub record EndedRefused (report : List Row) (ending : Ending) (text : List ℕ) : Type 0 where
@@ -107,38 +131,55 @@ abbrev pub IsDone : Command → Outside → Outside → List Row → Type 0
 IsDone (Run run) before after report = Finished (task_named run) before after report
 IsDone (Make make) before after report =
     IsLeftByMade make (λ before after. Finished (task_named (run_of_make make)) before after report) before after
-IsDone (Explain explain) before after report =
-    (report ≡ []) × (rows : List ExplainRow) × Explained explain.max_frames before.left after.left rows
+IsDone (Explain capture) before after report =
+    (report ≡ []) × (rows : List ExplainRow) × ReadsWhole capture.max_frames before.left after.left (TellsRows rows)
+IsDone (Print capture) before after report =
+    (report ≡ []) × (lines : List ℕ) × ReadsWhole capture.max_frames before.left after.left (TellsLines lines)
 IsDone Help before after report = report ≡ []
 IsDone (Disturb disturb) before after report = Finished (task_disturbed disturb) before after report
+IsDone (Serve serve) before after report =
+    (report ≡ []) × (rows : List ServeRow) × IsServed (values_named serve) serve.max_events before after rows
+
+-- the bytes have no header of a capture, or something else than an entry stands in them
+abbrev pub IsNoCapture : ℕ → List ℕ → Type 0
+IsNoCapture max bytes = HasNoHeader bytes ⊎ ((offset : ℕ) × IsBrokenCapture max bytes offset)
 
 -- the script of a command is broken
 abbrev pub HasBrokenScript : Command → Outside → Type 0
 HasBrokenScript (Run run) before =
     IfSome before.left (λ bytes. (offset : ℕ) × IsBrokenAt run.max_events bytes offset)
 HasBrokenScript (Make make) before = ⊥
-HasBrokenScript (Explain explain) before =
-    IfSome before.left (λ bytes. HasNoHeader bytes ⊎ ((offset : ℕ) × IsBrokenCapture explain.max_frames bytes offset))
+HasBrokenScript (Explain capture) before = IfSome before.left (IsNoCapture capture.max_frames)
+HasBrokenScript (Print capture) before = IfSome before.left (IsNoCapture capture.max_frames)
 HasBrokenScript Help before = ⊥
 HasBrokenScript (Disturb disturb) before =
     IfSome before.left (λ bytes. (offset : ℕ) × IsBrokenAt disturb.run.max_events bytes offset)
+HasBrokenScript (Serve serve) before =
+    IfSome before.left (λ bytes. (offset : ℕ) × IsBrokenAt serve.max_events bytes offset)
 
 -- the script of a command is over the limit
 abbrev pub HasLongScript : Command → Outside → Type 0
 HasLongScript (Run run) before = IfSome before.left (IsOverLimit run.max_events)
 HasLongScript (Make make) before = ⊥
-HasLongScript (Explain explain) before = IfSome before.left (IsLongCapture explain.max_frames)
+HasLongScript (Explain capture) before = IfSome before.left (IsLongCapture capture.max_frames)
+HasLongScript (Print capture) before = IfSome before.left (IsLongCapture capture.max_frames)
 HasLongScript Help before = ⊥
 HasLongScript (Disturb disturb) before = IfSome before.left (IsOverLimit disturb.run.max_events)
+HasLongScript (Serve serve) before = IfSome before.left (IsOverLimit serve.max_events)
+
+-- where the bytes are a capture file, the status is 0, or memory ran out
+abbrev pub IsDoneIfCapture : ℕ → ℕ → List ℕ → Type 0
+IsDoneIfCapture max result bytes = (entries : List CaptureEntry) → IsCaptureFile max bytes entries → IsUnlessNoMemory 0 result
 
 -- the status of a command that no fault of the outside stopped
 abbrev pub IsComplete : Command → Outside → ℕ → Type 0
 IsComplete (Run run) before result = IfSome before.left (IsStatusOf run.max_events result)
 IsComplete (Make make) before result = IsUnlessNoMemory 0 result
-IsComplete (Explain explain) before result =
-    IfSome before.left (λ bytes. (entries : List CaptureEntry) → IsCaptureFile explain.max_frames bytes entries → IsUnlessNoMemory 0 result)
+IsComplete (Explain capture) before result = IfSome before.left (IsDoneIfCapture capture.max_frames result)
+IsComplete (Print capture) before result = IfSome before.left (IsDoneIfCapture capture.max_frames result)
 IsComplete Help before result = IsUnlessNoMemory 0 result
 IsComplete (Disturb disturb) before result = IfSome before.left (IsStatusOf disturb.run.max_events result)
+IsComplete (Serve serve) before result = IfSome before.left (IsStatusOf serve.max_events result)
 
 -- what the words ask for: nothing where they are refused
 abbrev pub Ask : List (List ℕ) → Option Command → Type 0
@@ -149,9 +190,19 @@ Ask words (Some command) = Names words command
 abbrev pub AskToMake : List (List ℕ) → Type 0
 AskToMake words = (make : MakeCommand) × NameWork words (Make make)
 
--- the words ask for an explanation of a capture
-abbrev pub AskToExplain : List (List ℕ) → Type 0
-AskToExplain words = (explain : ExplainCommand) × NameWork words (Explain explain)
+-- the commands that read a capture
+abbrev pub IsOfCapture : Command → Type 0
+IsOfCapture (Run run) = ⊥
+IsOfCapture (Make make) = ⊥
+IsOfCapture (Explain capture) = ⊤
+IsOfCapture (Print capture) = ⊤
+IsOfCapture Help = ⊥
+IsOfCapture (Disturb disturb) = ⊥
+IsOfCapture (Serve serve) = ⊥
+
+-- the words ask for one of them
+abbrev pub AskOfCapture : List (List ℕ) → Type 0
+AskOfCapture words = (command : Command) × NameWork words command × IsOfCapture command
 
 -- the words name no command, or ask how the program is used
 abbrev pub AskForNoWork : List (List ℕ) → Type 0

@@ -15,9 +15,9 @@ pub mod Ran
 pub mod ReportText
 pub mod RunWords
 pub mod Serve
+pub mod ServeText
 pub mod Setting
 pub mod Status
 pub mod Summary
-pub mod Text
 pub mod Usage
 pub mod Word

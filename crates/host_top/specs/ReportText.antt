@@ -19,7 +19,7 @@ use Rattle.net_host.specs.declared.report.Mark.TheVariants.{Dhcp, Dns, ArpReply,
 use Rattle.phy_layers.specs.PcapBytes.{epoch_micros}
 use Rattle.host_top.specs.AddressText.{address_text}
 use Rattle.host_top.specs.QueryText.{query_line}
-use Rattle.host_top.specs.Text.{six_digits}
+use Rattle.capture_explain.specs.Text.{six_digits}
 
 -- a time in seconds, with six digits behind the point
 abbrev pub time_text : ℕ → List ℕ

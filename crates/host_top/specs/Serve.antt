@@ -1,7 +1,14 @@
 -- The words that name a lease server, and what it leaves.
-use Rattle.std.specs.Prelude.{◌≡◌, ℕ, ◌≤◌, List, [], Option, None, length}
+use Rattle.std.specs.Prelude.{◌≡◌, ℕ, ◌≤◌, List, [], Option, None, Result, Ok, Err, OnOk, IfErr, length}
 use Rattle.lease_server.specs.Values.{Values, refused}
 use Rattle.host_top.specs.declared.serve_command.ServeCommand.{ServeCommand}
+use Rattle.net_host.specs.Outside.{Outside, IsQuiet}
+use Rattle.server_run.specs.declared.report.ServeRow.{ServeRow}
+use Rattle.server_run.specs.declared.serve_error.ServeError.{ServeError}
+use Rattle.server_run.specs.declared.serve_error.ServeError.TheVariants as error
+use Rattle.server_run.specs.Served.{Finished, Leaves, HasCause}
+use Rattle.host_top.specs.declared.ending.Ending.{Ending}
+use Rattle.host_top.specs.declared.ending.Ending.TheVariants.{Done, Script, Limit, Read, Capture, NoMemory}
 use Rattle.host_top.specs.Ipv4Word.{IsIpv4Word}
 use Rattle.host_top.specs.RunWords.{IsCountWord}
 use Rattle.host_top.specs.Word.{IsNumberWord, IsU32Word, IsAddressWord, argument_at}
@@ -51,3 +58,21 @@ pub record IsServable (serve : ServeCommand) : Type 0 where
   pub accepted : refused (values_named serve) ≡ None
   pub some : 1 ≤ serve.max_events
   pub limit : serve.max_events ≤ 10000
+
+-- how it ended, by its answer
+abbrev pub ending_served : Result (Unit {0}) ServeError → Ending
+ending_served (Ok _) = Done
+ending_served (Err (error.Script offset)) = Script offset
+ending_served (Err error.Limit) = Limit
+ending_served (Err error.Read) = Read
+ending_served (Err error.Sink) = Capture
+ending_served (Err error.NoMemory) = NoMemory
+
+-- what it left when it ended so, and why
+pub record ServesAs (serve : ServeCommand) (before after : Outside) (rows : List ServeRow) (ending : Ending) : Type 0 where
+  pub answer : Result (Unit {0}) ServeError
+  pub ends : ending ≡ ending_served answer
+  pub finished : OnOk answer (Finished (values_named serve) serve.max_events before after rows)
+  pub quiet : OnOk answer (IsQuiet before after)
+  pub leaves : IfErr answer (Leaves (values_named serve) serve.max_events before after rows)
+  pub cause : IfErr answer (HasCause serve.max_events before after)

@@ -2,10 +2,10 @@
 ghost use Rattle.std.specs.Prelude.{◌≡◌, ◌<◌, false};
 ghost use Rattle.std.specs.Fmt.{digits};
 ghost use Rattle.net_wire.specs.Pretty.{hex_pair};
-ghost use Rattle.host_top.specs.Text.{Puts};
+ghost use Rattle.capture_explain.specs.Text.{Puts};
 ghost use Rattle.host_top.specs.AddressText.{address_text, ipv6_text, ip_text};
 
-use crate::text::{put, put_number};
+use capture_explain::text::{put, put_number};
 use net_wire::{IpAddress, Ipv4Address, Ipv6Address};
 use phy_layers::{ByteSink, SinkError};
 

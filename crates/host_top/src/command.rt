@@ -4,8 +4,9 @@ ghost use Rattle.host_top.specs.Command.{AreNamed, NameWork, NameLiveWork, CanBe
 ghost use Rattle.host_top.specs.RunWords.{WritesRun, IsCountWord};
 ghost use Rattle.host_top.specs.MakeWords.{WritesMake};
 
+use crate::capture_command::{CaptureCommand, capture_of};
 use crate::disturb_command::{DisturbCommand, disturb_of};
-use crate::explain_command::{ExplainCommand, explain_of};
+use crate::serve_command::{ServeCommand, serve_of};
 use crate::setting::{RunSettings, settings_of};
 use crate::word::{address_of, number_of, u32_of};
 use net_wire::EthernetAddress;
@@ -15,10 +16,14 @@ use net_wire::EthernetAddress;
 pub enum Command {
     Run(RunCommand),
     Make(MakeCommand),
-    Explain(ExplainCommand),
+    /// Explain the capture of standard input.
+    Explain(CaptureCommand),
+    /// Print the capture of standard input.
+    Print(CaptureCommand),
     /// Say how the program is used.
     Help,
     Disturb(DisturbCommand),
+    Serve(ServeCommand),
 }
 
 /// Run the host on the script of standard input.
@@ -48,8 +53,8 @@ impl Command {
         ensures no { result ≡ false → CanBeLive self → ⊥ }
     {
         match self {
-            Command::Run(_) | Command::Disturb(_) => true,
-            Command::Make(_) | Command::Explain(_) | Command::Help => false,
+            Command::Run(_) | Command::Disturb(_) | Command::Serve(_) => true,
+            Command::Make(_) | Command::Explain(_) | Command::Print(_) | Command::Help => false,
         }
     }
 }
@@ -115,7 +120,8 @@ fn command_of(words: &[String]) -> Option<Command>
     match keyword {
         Keyword::Run => Some(Command::Run(run_of(behind)?)),
         Keyword::Make => Some(Command::Make(make_of(behind)?)),
-        Keyword::Explain => Some(Command::Explain(explain_of(behind)?)),
+        Keyword::Explain => Some(Command::Explain(capture_of(behind)?)),
+        Keyword::Print => Some(Command::Print(capture_of(behind)?)),
         Keyword::Help => {
             if behind.is_empty() {
                 Some(Command::Help)
@@ -124,6 +130,7 @@ fn command_of(words: &[String]) -> Option<Command>
             }
         }
         Keyword::Disturb => Some(Command::Disturb(disturb_of(behind)?)),
+        Keyword::Serve => Some(Command::Serve(serve_of(behind)?)),
     }
 }
 
@@ -133,8 +140,10 @@ enum Keyword {
     Run,
     Make,
     Explain,
+    Print,
     Help,
     Disturb,
+    Serve,
 }
 
 /// The command that a first word is for.
@@ -148,10 +157,14 @@ fn keyword_of(word: &[u8]) -> Option<Keyword>
         Some(Keyword::Make)
     } else if word == b"explain".as_slice() {
         Some(Keyword::Explain)
+    } else if word == b"print".as_slice() {
+        Some(Keyword::Print)
     } else if is_help_word(word) {
         Some(Keyword::Help)
     } else if word == b"disturb".as_slice() {
         Some(Keyword::Disturb)
+    } else if word == b"serve".as_slice() {
+        Some(Keyword::Serve)
     } else {
         None
     }

@@ -1,9 +1,9 @@
 //! How a command ended.
 ghost use Rattle.std.specs.Prelude.{◌≡◌};
-ghost use Rattle.host_top.specs.Text.{Puts};
+ghost use Rattle.capture_explain.specs.Text.{Puts};
 ghost use Rattle.host_top.specs.Ending.{status_of, status_after, last_line};
 
-use crate::text::{put, put_number};
+use capture_explain::text::{put, put_number};
 use crate::usage::put_usage;
 use phy_layers::{ByteSink, SinkError};
 

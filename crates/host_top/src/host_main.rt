@@ -10,32 +10,38 @@ ghost use Rattle.host_top.specs.Disturb.{IsDisturbable, DisturbedTo};
 ghost use Rattle.capture_explain.specs.declared.explanation.ExplainRow.{ExplainRow};
 ghost use Rattle.capture_explain.specs.ExplainText.{explanation_bytes};
 ghost use Rattle.net_host.specs.QueryRows.{CountsQueries};
-ghost use Rattle.host_top.specs.Explain.{IsExplainable, ExplainsAs};
+ghost use Rattle.host_top.specs.Explain.{IsReadable, ExplainsAs, PrintsAs};
 ghost use Rattle.host_top.specs.Ending.{last_line};
 ghost use Rattle.host_top.specs.HostMain.{ForNamed, IsDone, HasBrokenScript, HasLongScript, IsComplete};
-ghost use Rattle.host_top.specs.HostMain.{Ask, AskToMake, AskToExplain, AskForNoWork, HasEnded, Finishes};
+ghost use Rattle.host_top.specs.HostMain.{Ask, AskToMake, AskOfCapture, IsOfCapture, AskForNoWork, HasEnded, Finishes};
+ghost use Rattle.server_run.specs.declared.report.ServeRow.{ServeRow};
+ghost use Rattle.host_top.specs.Serve.{IsServable, ServesAs};
+ghost use Rattle.host_top.specs.ServeText.{serve_bytes};
 ghost use Rattle.host_top.specs.Making.{sink_alone, MadeTo};
 ghost use Rattle.host_top.specs.Printing.{summed_up, Prints};
 ghost use Rattle.host_top.specs.Ran.{RanTo};
 ghost use Rattle.host_top.specs.ReportText.{report_bytes};
 ghost use Rattle.host_top.specs.Status.{ComesExactly};
 ghost use Rattle.host_top.specs.Summary.{summary_text};
-ghost use Rattle.host_top.specs.Text.{Puts};
+ghost use Rattle.capture_explain.specs.Text.{Puts};
 ghost use Rattle.host_top.specs.Usage.{help_text};
 
 use crate::command::{Asked, Command, MakeCommand, RunCommand, parse};
 use crate::disturb_command::{DisturbCommand, run_over_bad_link};
 use crate::ending::{Ending, Finish, put_last_line};
-use crate::explain_command::{ExplainCommand, explain_named};
+use crate::capture_command::{CaptureCommand, explain_named, print_named};
 use crate::printer::RowPrinter;
 use crate::report_text::report_text;
 use crate::running::{run_made, run_named};
+use crate::serve_command::{ServeCommand, serve_named};
+use crate::serve_text::serve_text;
 use crate::summary::put_summary;
 use crate::text::flush;
 use crate::usage::put_help;
 use capture_explain::{Explanation, explain_text};
 use net_host::{Report, ScriptSource, Silent};
 use phy_layers::{ByteSink, PcapSink, SinkError};
+use server_run::ServeReport;
 use std::alloc::Global;
 
 /// Does what the words behind the program's name ask for, and answers the status that the program ends with.
@@ -82,8 +88,8 @@ pub fn host_main<S: ScriptSource, C: PcapSink, O: ByteSink>(
     // A script that is made stands in the place of the source, of which nothing is read.
     ensures unread { AskToMake (map string_bytes args.now) → script.new ≡ script.old }
 
-    // Where a capture is explained nothing is captured or reported.
-    ensures uncaptured { AskToExplain (map string_bytes args.now) → (capture.new ≡ capture.old) × (report.new ≡ []) }
+    // Where a capture is explained or printed nothing is captured or reported.
+    ensures uncaptured { AskOfCapture (map string_bytes args.now) → (capture.new ≡ capture.old) × (report.new ≡ []) }
 
     // Whatever the status: at most four frames of one query to one place of the list of name servers, and no query
     // with two lines.
@@ -117,7 +123,7 @@ fn obey<S: ScriptSource, C: PcapSink, O: ByteSink>(
     ensures untouched { (command_asked asked ≡ None) ⊎ (command_asked asked ≡ Some Command.Help)
         → (script.new ≡ script.old) × (capture.new ≡ capture.old) × (report.new ≡ []) }
     ensures unread { (make : MakeCommand) → command_asked asked ≡ Some (Command.Make make) → script.new ≡ script.old }
-    ensures uncaptured { (explain : ExplainCommand) → command_asked asked ≡ Some (Command.Explain explain)
+    ensures uncaptured { (command : Command) → command_asked asked ≡ Some command → IsOfCapture command
         → (capture.new ≡ capture.old) × (report.new ≡ []) }
 {
     match asked {
@@ -145,17 +151,18 @@ fn obey_command<S: ScriptSource, C: PcapSink, O: ByteSink>(
     ensures untouched { command ≡ Command.Help
         → (script.new ≡ script.old) × (capture.new ≡ capture.old) × (report.new ≡ []) }
     ensures unread { (make : MakeCommand) → command ≡ Command.Make make → script.new ≡ script.old }
-    ensures uncaptured { (explain : ExplainCommand) → command ≡ Command.Explain explain
-        → (capture.new ≡ capture.old) × (report.new ≡ []) }
+    ensures uncaptured { IsOfCapture command → (capture.new ≡ capture.old) × (report.new ≡ []) }
 {
     match command {
         Command::Run(run) => obey_run(alloc, &run, is_live, script, capture, out, report),
         Command::Make(make) => obey_make(alloc, &make, capture, out, report),
         Command::Explain(explain) => obey_explain(alloc, &explain, script, out),
+        Command::Print(print) => obey_print(alloc, &print, script, out),
         Command::Help => obey_help(out),
         Command::Disturb(disturb) => {
             obey_disturb(alloc, &disturb, is_live, script, capture, out, report)
         }
+        Command::Serve(serve) => obey_serve(alloc, &serve, is_live, script, capture, out),
     }
 }
 
@@ -180,7 +187,7 @@ fn obey_run<S: ScriptSource, C: PcapSink, O: ByteSink>(
         let mut printer = RowPrinter::new(out);
         let ending = run_named(alloc, command, script, capture, report, &mut printer);
         let answer = printer.answer;
-        end_rows(report, ending, answer, out)
+        end_rows(report.rows(), ending, answer, out)
     } else {
         let ending = run_named(alloc, command, script, capture, report, &mut Silent);
         let answer = print_run(report, ending, out);
@@ -228,7 +235,7 @@ fn obey_disturb<S: ScriptSource, C: PcapSink, O: ByteSink>(
         let mut printer = RowPrinter::new(out);
         let ending = run_over_bad_link(alloc, command, script, capture, report, &mut printer);
         let answer = printer.answer;
-        end_rows(report, ending, answer, out)
+        end_rows(report.rows(), ending, answer, out)
     } else {
         let ending = run_over_bad_link(alloc, command, script, capture, report, &mut Silent);
         let answer = print_run(report, ending, out);
@@ -239,11 +246,11 @@ fn obey_disturb<S: ScriptSource, C: PcapSink, O: ByteSink>(
 /// Explains a capture, and prints the rows.
 fn obey_explain<S: ScriptSource, O: ByteSink>(
     alloc: Global,
-    command: &ExplainCommand,
+    command: &CaptureCommand,
     script: &mut S,
     out: &mut O,
 ) -> Finish
-    requires explainable { IsExplainable command.now }
+    requires readable { IsReadable command.now }
     ensures explained { (rows : List ExplainRow)
         × ExplainsAs command.now.max_frames (S.left script.old) (S.left script.new) (S.faults script.old)
         (S.faults script.new) rows result.ending
@@ -253,6 +260,54 @@ fn obey_explain<S: ScriptSource, O: ByteSink>(
     let ending = explain_named(alloc, command, script, &mut explanation);
     let answer = print_explanation(&explanation, ending, out);
     Finish { ending, answer }
+}
+
+/// Prints a capture.
+fn obey_print<S: ScriptSource, O: ByteSink>(
+    alloc: Global,
+    command: &CaptureCommand,
+    script: &mut S,
+    out: &mut O,
+) -> Finish
+    requires readable { IsReadable command.now }
+    ensures printed { (lines : List ℕ)
+        × PrintsAs command.now.max_frames (S.left script.old) (S.left script.new) (S.faults script.old)
+        (S.faults script.new) lines result.ending
+        × Took O.bytes O.faults O.grows result.answer (lines ++ last_line result.ending) out.old out.new }
+{
+    let mut answer = Ok(());
+    let ending = print_named(alloc, command, script, out, &mut answer);
+    put_last_line(out, &mut answer, ending);
+    flush(out, &mut answer);
+    Finish { ending, answer }
+}
+
+/// Serves leases on the script, and prints what the server did.
+fn obey_serve<S: ScriptSource, C: PcapSink, O: ByteSink>(
+    alloc: Global,
+    command: &ServeCommand,
+    is_live: bool,
+    script: &mut S,
+    capture: &mut C,
+    out: &mut O,
+) -> Finish
+    requires servable { IsServable command.now }
+    ensures served { (rows : List ServeRow)
+        × ServesAs command.now (outside_of S.ScriptSource C.ByteSink script.old capture.old)
+        (outside_of S.ScriptSource C.ByteSink script.new capture.new) rows result.ending
+        × Took O.bytes O.faults O.grows result.answer (serve_bytes rows ++ last_line result.ending) out.old out.new }
+{
+    let mut report = ServeReport::new(alloc);
+    if is_live {
+        let mut printer = RowPrinter::new(out);
+        let ending = serve_named(alloc, command, script, capture, &mut report, &mut printer);
+        let answer = printer.answer;
+        end_rows(report.rows(), ending, answer, out)
+    } else {
+        let ending = serve_named(alloc, command, script, capture, &mut report, &mut Silent);
+        let answer = print_served(&report, ending, out);
+        Finish { ending, answer }
+    }
 }
 
 /// Prints how the program is used.
@@ -278,17 +333,17 @@ fn refuse<O: ByteSink>(out: &mut O) -> Finish
 }
 
 /// Ends a report whose rows were printed as they came.
-fn end_rows<O: ByteSink>(
-    report: &Report,
+fn end_rows<R, O: ByteSink>(
+    rows: &[R],
     ending: Ending,
     printed: Result<(), SinkError>,
     out: &mut O,
 ) -> Finish
     ensures ending { result.ending ≡ ending }
-    ensures few { length report.now < 2 ^ 64 }
+    ensures few { length rows.now < 2 ^ 64 }
     ensures puts { Puts O.bytes O.faults O.grows printed result.answer (last_line ending) out.old out.new }
 {
-    let _rows = report.rows().len();
+    let _rows = rows.len();
     let mut answer = printed;
     put_last_line(out, &mut answer, ending);
     flush(out, &mut answer);
@@ -299,6 +354,19 @@ fn print_run<O: ByteSink>(report: &Report, ending: Ending, out: &mut O) -> Resul
     ensures { Took O.bytes O.faults O.grows result (report_bytes report.now ++ last_line ending) out.old out.new }
 {
     let mut answer = report_text(report, out);
+    put_last_line(out, &mut answer, ending);
+    flush(out, &mut answer);
+    answer
+}
+
+fn print_served<O: ByteSink>(
+    report: &ServeReport,
+    ending: Ending,
+    out: &mut O,
+) -> Result<(), SinkError>
+    ensures { Took O.bytes O.faults O.grows result (serve_bytes report.now ++ last_line ending) out.old out.new }
+{
+    let mut answer = serve_text(report, out);
     put_last_line(out, &mut answer, ending);
     flush(out, &mut answer);
     answer

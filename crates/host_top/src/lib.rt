@@ -4,11 +4,11 @@
 
 pub mod address_text;
 pub mod arguments;
+pub mod capture_command;
 pub mod capture_file;
 pub mod command;
 pub mod disturb_command;
 pub mod ending;
-pub mod explain_command;
 pub mod generator;
 pub mod host_main;
 mod ipv4_word;
@@ -19,6 +19,7 @@ pub mod query_text;
 pub mod report_text;
 mod running;
 pub mod serve_command;
+pub mod serve_text;
 pub mod setting;
 pub mod summary;
 pub mod text;

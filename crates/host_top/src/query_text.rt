@@ -1,12 +1,12 @@
 //! The lines of queries in a report.
 ghost use Rattle.std.specs.Prelude.{◌≡◌, map};
 ghost use Rattle.std.specs.List.{flat_map, join_with_byte};
-ghost use Rattle.host_top.specs.Text.{Puts};
+ghost use Rattle.capture_explain.specs.Text.{Puts};
 ghost use Rattle.host_top.specs.AddressText.{ip_text};
 ghost use Rattle.host_top.specs.QueryText.{query_line, outcome_text, refusal_text};
 
 use crate::address_text::put_ip;
-use crate::text::{put, put_number};
+use capture_explain::text::{put, put_number};
 use dns_client::StartQueryError;
 use net_host::{Outcome, QueryLine};
 use net_wire::IpAddress;

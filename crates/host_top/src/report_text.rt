@@ -3,7 +3,7 @@ ghost use Rattle.std.specs.Prelude.{◌≡◌};
 ghost use Rattle.std.specs.List.{flat_map};
 ghost use Rattle.phy_layers.specs.Sink.{Took};
 ghost use Rattle.phy_layers.specs.PcapBytes.{epoch_micros};
-ghost use Rattle.host_top.specs.Text.{Puts};
+ghost use Rattle.capture_explain.specs.Text.{Puts};
 ghost use Rattle.ether_link.specs.Texts.{layer_word};
 ghost use Rattle.host_top.specs.ReportText.{report_bytes, row_text, event_line, sent_line, time_text};
 ghost use Rattle.host_top.specs.ReportText.{kind_text, note_text, found_text, net_text, transport_text, flag_text};
@@ -11,7 +11,7 @@ ghost use Rattle.host_top.specs.ReportText.{stop_text, mark_text, lease_text};
 
 use crate::address_text::put_address;
 use crate::query_text::put_lines;
-use crate::text::{put, put_number, put_six_digits};
+use capture_explain::text::{put, put_number, put_six_digits};
 use ether_lax::{FrameNote, NetKind, TransportKind};
 use ether_link::err::Layer;
 use net_host::{Kind, Mark, Report, Row, Sent};
@@ -79,7 +79,7 @@ pub fn put_frame<O: ByteSink>(out: &mut O, answer: &mut Result<(), SinkError>, s
 }
 
 /// A time in seconds. Times before moment 0 are no times of events.
-fn put_time<O: ByteSink>(out: &mut O, answer: &mut Result<(), SinkError>, at: Instant)
+pub(crate) fn put_time<O: ByteSink>(out: &mut O, answer: &mut Result<(), SinkError>, at: Instant)
     ensures { Puts O.bytes O.faults O.grows answer.old answer.new (time_text (epoch_micros at)) out.old out.new }
 {
     let micros = micros_of(at);

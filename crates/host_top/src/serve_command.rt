@@ -1,14 +1,20 @@
 //! The command that serves leases.
-ghost use Rattle.std.specs.Prelude.{◌≡◌, ℕ, map, string_bytes, IfSome, IfNone, None};
-ghost use Rattle.lease_server.specs.Values.{values_of, refused};
-ghost use Rattle.host_top.specs.Serve.{IsRangeWord, IsPrefixWord, SpellsServe, WritesServe, values_named};
+ghost use Rattle.std.specs.Prelude.{◌≡◌, ℕ, [], map, string_bytes, IfSome, IfNone};
+ghost use Rattle.lease_server.specs.Values.{values_of};
+ghost use Rattle.net_host.specs.Outside.{outside_of};
+ghost use Rattle.host_top.specs.Serve.{IsRangeWord, IsPrefixWord, SpellsServe, WritesServe, IsServable, ServesAs, ending_served, values_named};
 
 use crate::command::count_of;
+use crate::ending::Ending;
 use crate::ipv4_word::ipv4_of;
 use crate::word::{address_of, number_of, u32_of};
 use arrayvec::ArrayVec;
 use lease_server::{Server, ServerValues};
 use net_wire::{EthernetAddress, Ipv4Address};
+use phy_layers::PcapSink;
+use script_source::ScriptSource;
+use server_run::{ServeError, ServeReport, ServeWatcher, serve_over};
+use std::alloc::Global;
 
 /// Serve leases to the clients on the script of standard input.
 #[derive(Clone, Copy, Debug, PartialEq, Eq)]
@@ -98,4 +104,47 @@ fn prefix_of(word: &[u8]) -> Option<u8>
         return None;
     }
     Some(number as u8)
+}
+
+/// Serves leases on the script, and tells a watcher of each row.
+pub(crate) fn serve_named<S: ScriptSource, C: PcapSink, W: ServeWatcher>(
+    alloc: Global,
+    command: &ServeCommand,
+    script: &mut S,
+    capture: &mut C,
+    report: &mut ServeReport,
+    watcher: &mut W,
+) -> Ending
+    requires empty { report.old ≡ [] }
+    requires servable { IsServable command.now }
+    ensures served { ServesAs command.now
+        (outside_of S.ScriptSource C.ByteSink script.old capture.old)
+        (outside_of S.ScriptSource C.ByteSink script.new capture.new) report.new result }
+    ensures seen { W.sees watcher.old report.new watcher.new }
+{
+    let values = values_of(command);
+    let answer = serve_over(
+        alloc,
+        script,
+        capture,
+        &values,
+        command.max_events,
+        report,
+        watcher,
+    );
+    ending_served(answer)
+}
+
+/// How a server ended that answered so.
+fn ending_served(answer: Result<(), ServeError>) -> Ending
+    ensures { result ≡ ending_served answer }
+{
+    match answer {
+        Ok(()) => Ending::Done,
+        Err(ServeError::Script(offset)) => Ending::Script(offset),
+        Err(ServeError::Limit) => Ending::Limit,
+        Err(ServeError::Read) => Ending::Read,
+        Err(ServeError::Sink) => Ending::Capture,
+        Err(ServeError::NoMemory) => Ending::NoMemory,
+    }
 }

@@ -1,10 +1,11 @@
 //! The summary of a report.
 ghost use Rattle.std.specs.Prelude.{◌≡◌, ◌≤◌, length};
 ghost use Rattle.host_top.specs.Summary.{count_of, is_arrived, is_for, is_end, sent_for, ended_as, last_lease, summary_text};
-ghost use Rattle.host_top.specs.Text.{Puts};
+ghost use Rattle.capture_explain.specs.Text.{Puts};
 
 use crate::report_text::put_lease;
-use crate::text::{put, put_large_number, put_number};
+use crate::text::put_large_number;
+use capture_explain::text::{put, put_number};
 use net_host::{Kind, Mark, Outcome, QueryLine, Report, Row, Sent};
 use net_wire::Ipv4Cidr;
 use phy_layers::{ByteSink, SinkError};

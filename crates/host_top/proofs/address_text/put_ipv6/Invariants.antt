@@ -1,6 +1,6 @@
 use Rattle.std.proofs.Common.{◌≡◌, ◌*◌, take}
 use Rattle.std.specs.List.{join_with_byte}
-use Rattle.host_top.specs.Text.{Puts}
+use Rattle.capture_explain.specs.Text.{Puts}
 use Rattle.host_top.specs.AddressText.{groups_of}
 use Rattle.host_top.proofs.JoinLemmas.{between}
 use Rattle.host_top.proofs.address_text.put_ipv6.Given as goal

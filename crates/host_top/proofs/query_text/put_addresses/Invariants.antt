@@ -1,6 +1,6 @@
 use Rattle.std.proofs.Common.{◌≡◌, take, map}
 use Rattle.std.specs.List.{join_with_byte}
-use Rattle.host_top.specs.Text.{Puts}
+use Rattle.capture_explain.specs.Text.{Puts}
 use Rattle.host_top.specs.AddressText.{ip_text}
 use Rattle.host_top.proofs.JoinLemmas.{between}
 use Rattle.host_top.proofs.query_text.put_addresses.Given as goal

@@ -1,6 +1,6 @@
 use Rattle.std.proofs.Common.{take}
 use Rattle.std.specs.List.{flat_map}
-use Rattle.host_top.specs.Text.{Puts}
+use Rattle.capture_explain.specs.Text.{Puts}
 use Rattle.host_top.specs.QueryText.{query_line}
 use Rattle.host_top.proofs.query_text.put_lines.Given as goal
 

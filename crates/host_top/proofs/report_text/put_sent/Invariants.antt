@@ -1,6 +1,6 @@
 use Rattle.std.proofs.Common.{take}
 use Rattle.std.specs.List.{flat_map}
-use Rattle.host_top.specs.Text.{Puts}
+use Rattle.capture_explain.specs.Text.{Puts}
 use Rattle.host_top.specs.ReportText.{sent_line}
 use Rattle.host_top.proofs.report_text.put_sent.Given as goal
 

@@ -3,7 +3,7 @@ use Rattle.std.specs.Fmt.{decimal}
 use Rattle.net_host.specs.declared.report.Row.{Row}
 use Rattle.host_top.specs.ReportText.{lease_text}
 use Rattle.host_top.specs.Summary.{summary_text}
-use Rattle.host_top.specs.Text.{Puts}
+use Rattle.capture_explain.specs.Text.{Puts}
 use Rattle.host_top.proofs.TextLemmas.{puts_then, puts_same}
 use Rattle.host_top.proofs.summary.put_summary.Goals as goal
 

@@ -1,30 +1,32 @@
-//! The command that explains a capture.
-ghost use Rattle.std.specs.Prelude.{◌≡◌, ℕ, [], map, string_bytes, IfSome, IfNone, Result};
+//! The commands that read a capture.
+ghost use Rattle.std.specs.Prelude.{◌≡◌, ℕ, List, [], map, string_bytes, IfSome, IfNone, Result};
 ghost use Rattle.capture_explain.specs.declared.error.ExplainError.{ExplainError};
-ghost use Rattle.host_top.specs.Explain.{IsFrameCountWord, WritesExplain, IsExplainable, ending_explained, ExplainsAs};
+ghost use Rattle.capture_explain.specs.Text.{Puts};
+ghost use Rattle.host_top.specs.Explain.{IsFrameCountWord, WritesCapture, IsReadable, ending_explained, ExplainsAs, PrintsAs};
 
 use crate::ending::Ending;
 use crate::word::number_of;
-use capture_explain::{ExplainError, Explanation, explain};
+use capture_explain::{ExplainError, Explanation, explain, print_capture};
+use phy_layers::{ByteSink, SinkError};
 use script_source::ScriptSource;
 use std::alloc::Global;
 
-/// Explain the capture of standard input.
+/// Explain or print the capture of standard input.
 #[derive(Clone, Copy, Debug, PartialEq, Eq)]
-pub struct ExplainCommand {
+pub struct CaptureCommand {
     /// The most frames that the capture may have.
     pub max_frames: u32,
 }
 
-/// What the words behind `explain` name.
-pub(crate) fn explain_of(words: &[String]) -> Option<ExplainCommand>
-    ensures found { IfSome result (WritesExplain (map string_bytes words.now)) }
-    ensures refuses { IfNone result ((explain : ExplainCommand) → WritesExplain (map string_bytes words.now) explain → ⊥) }
+/// What the words behind `explain` or `print` name.
+pub(crate) fn capture_of(words: &[String]) -> Option<CaptureCommand>
+    ensures found { IfSome result (WritesCapture (map string_bytes words.now)) }
+    ensures refuses { IfNone result ((capture : CaptureCommand) → WritesCapture (map string_bytes words.now) capture → ⊥) }
 {
     let [max_frames] = words else {
         return None;
     };
-    Some(ExplainCommand {
+    Some(CaptureCommand {
         max_frames: frame_count_of(max_frames.as_bytes())?,
     })
 }
@@ -44,12 +46,12 @@ fn frame_count_of(word: &[u8]) -> Option<u32>
 /// Explains the capture.
 pub(crate) fn explain_named<S: ScriptSource>(
     alloc: Global,
-    command: &ExplainCommand,
+    command: &CaptureCommand,
     source: &mut S,
     into: &mut Explanation,
 ) -> Ending
     requires empty { into.old ≡ [] }
-    requires explainable { IsExplainable command.now }
+    requires readable { IsReadable command.now }
     ensures { ExplainsAs command.now.max_frames (S.left source.old) (S.left source.new) (S.faults source.old)
         (S.faults source.new) into.new result }
 {
@@ -57,7 +59,24 @@ pub(crate) fn explain_named<S: ScriptSource>(
     ending_explained(answer)
 }
 
-/// How an explanation ended that was answered so.
+/// Prints the capture frame by frame. After a refusal of the output it is read on.
+pub(crate) fn print_named<S: ScriptSource, O: ByteSink>(
+    alloc: Global,
+    command: &CaptureCommand,
+    source: &mut S,
+    out: &mut O,
+    written: &mut Result<(), SinkError>,
+) -> Ending
+    requires readable { IsReadable command.now }
+    ensures { (lines : List ℕ)
+        × PrintsAs command.now.max_frames (S.left source.old) (S.left source.new) (S.faults source.old) (S.faults source.new) lines result
+        × Puts O.bytes O.faults O.grows written.old written.new lines out.old out.new }
+{
+    let answer = print_capture(alloc, source, command.max_frames, out, written);
+    ending_explained(answer)
+}
+
+/// How a reading of a capture ended that was answered so.
 fn ending_explained(answer: Result<(), ExplainError>) -> Ending
     ensures { result ≡ ending_explained answer }
 {
