@@ -1,5 +1,5 @@
 -- How a server answers what is asked, by its calls so far, the newest first (RFC 2131, section 4.3; RFC 826).
-use Rattle.std.specs.Prelude.{◌≡◌, ℕ, List, [], ◌∷◌, Option, Some, None}
+use Rattle.std.specs.Prelude.{◌≡◌, ℕ, List, ◌∷◌, Option, Some, None}
 use Rattle.net_wire.specs.Arp.{arp_frame_bytes}
 use Rattle.net_wire.specs.Datagram.{Datagram, IsSentFrame}
 use Rattle.net_wire.specs.DhcpBytes.{message_bytes}

@@ -7,7 +7,7 @@ use Rattle.host_model.specs.Script.{Event, AreInOrder}
 use Rattle.host_model.specs.Classes.{IsScript, IsOverLimit, IsBrokenAt}
 use Rattle.lease_server.specs.Values.{Values}
 use Rattle.net_host.specs.Outside.{Outside, IsQuiet}
-use Rattle.net_host.specs.Run.{Taken, EndsBy, Stopped, Interrupted}
+use Rattle.net_host.specs.Run.{EndsBy, Stopped, Interrupted}
 use Rattle.script_reader.specs.declared.script.ReadEventError.TheVariants as read
 use Rattle.server_run.specs.declared.report.ServeRow.{ServeRow}
 use Rattle.server_run.specs.declared.serve_error.ServeError.{ServeError}

@@ -1,5 +1,5 @@
 -- What one event leaves in the server, the report and the capture.
-use Rattle.std.specs.Prelude.{◌≡◌, ℕ, ◌⊎◌, ℤ, pos, List, [], ◌∷◌, ◌++◌, Option, None}
+use Rattle.std.specs.Prelude.{◌≡◌, ℕ, ◌⊎◌, ℤ, List, [], ◌∷◌, ◌++◌, Option, None}
 use Rattle.std.specs.Io.KnownBytes.{Appends, Keeps}
 use Rattle.wire_base.specs.Causes.{AppendsFront}
 use Rattle.phy_layers.specs.PcapBytes.{epoch_micros}

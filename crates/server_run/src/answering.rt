@@ -26,8 +26,11 @@ pub(crate) struct Given {
     pub sent: Option<FrameBytes>,
 }
 
-/// Nothing.
-fn nothing() -> Given {
+/// No answer.
+fn nothing() -> Given
+    ensures answered { result.answered ≡ Answered.Nothing }
+    ensures sent { result.sent ≡ None }
+{
     Given {
         answered: Answered::Nothing,
         sent: None,
@@ -50,10 +53,8 @@ fn answer_request(
     ensures within { IfOk result (λ given. IsCapturableFrame given.sent) }
 {
     let reply = server.answer(at, request);
-    let sent = match server.message(request, &reply) {
-        Some(message) => Some(reply_frame(alloc, values, &message)?),
-        None => None,
-    };
+    let message = server.message(request, &reply);
+    let sent = reply_frame(alloc, values, message)?;
     Ok(Given {
         answered: Answered::Dhcp(reply),
         sent,

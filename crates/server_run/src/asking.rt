@@ -2,8 +2,9 @@
 ghost use Rattle.std.specs.Prelude.{◌≡◌};
 ghost use Rattle.std.specs.Option.{option_map};
 ghost use Rattle.net_wire.specs.DhcpMessage.{message_of};
+ghost use Rattle.host_model.specs.Frames.{asks_for};
 ghost use Rattle.lease_server.specs.Values.{values_of};
-ghost use Rattle.server_run.specs.Asking.{arp_request_in, request_in};
+ghost use Rattle.server_run.specs.Asking.{arp_request_in, own_address, request_in};
 
 use lease_server::ServerValues;
 use net_wire::arp::REQUEST;
@@ -29,13 +30,21 @@ pub(crate) fn request_in(frame: &[u8], hardware: EthernetAddress) -> Option<Dhcp
     }
 }
 
+/// Whether a packet is a request for the server's address.
+fn asks_for(arp: &ArpRepr, values: &ServerValues) -> bool
+    ensures { result ≡ asks_for (own_address (values_of values.now)) arp.now }
+{
+    arp.operation == REQUEST && arp.target_protocol_addr == values.address
+}
+
 /// The ARP request for the server's address that a frame is.
 pub(crate) fn arp_request_in(frame: &[u8], values: &ServerValues) -> Option<ArpRepr>
     ensures { result ≡ arp_request_in (values_of values.now) frame.now }
 {
     let arp = arp_of(frame, values.hardware)?;
-    if arp.operation != REQUEST || arp.target_protocol_addr != values.address {
-        return None;
+    if asks_for(&arp, values) {
+        Some(arp)
+    } else {
+        None
     }
-    Some(arp)
 }
