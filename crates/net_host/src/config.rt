@@ -219,7 +219,7 @@ impl<'a> HostConfig<'a> {
     }
 
     /// The hardware address of the host.
-    pub(crate) fn hardware(&self) -> EthernetAddress
+    pub fn hardware(&self) -> EthernetAddress
         ensures value { result ≡ self.now.hardware }
         ensures runs { CanRun self.now }
     {

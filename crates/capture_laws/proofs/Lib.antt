@@ -1,0 +1,4 @@
+pub mod SizeLemmas
+pub mod RunLemmas
+pub mod StampLemmas
+pub mod MemoryLemmas
