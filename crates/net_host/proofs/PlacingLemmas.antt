@@ -76,3 +76,24 @@ placed settings words before at event drawn old new places is_time can agrees ar
       };
       agrees = subst P is_entry handled.agrees;
     }
+
+-- the row that a host gives itself
+pub row_is : (settings : Settings) (before : List Entry) (at : ℤ) (event : ScriptEvent) (words : EventWords) (old new : Host) (kind : Kind)
+    (noted : Option FrameNote) (handled : Handled)
+    → at ≡ pos (epoch_micros at) → kind ≡ kind_of (arrival_of event) → IsNoteFor (arrival_of event) noted
+    → HandlesEvent at event words old new handled → CanRun settings → AgreesWithHistory settings before old
+    → IsRowOf settings before (entry_of settings before (event_at at event) words)
+    (record { at = at; kind = kind; note = noted; lease = handled.lease; sent = handled.sent; lines = handled.lines })
+row_is settings before at event words old new kind noted handled is_time is_kind is_note handles can agrees =
+    let answers = handles settings before can agrees in
+    let e = event_at at event in
+    record {
+      time = is_time;
+      kind = is_kind;
+      note = is_note;
+      lease = answers.lease;
+      sent = answers.frames;
+      dhcp = all_marked settings (held_before settings before) (told_by settings e.arrival) (known_hop settings before e)
+          (named_message settings before e words) _ _ handled.sent answers.frames;
+      lines = answers.lines;
+    }

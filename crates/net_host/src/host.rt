@@ -24,13 +24,14 @@ ghost use Rattle.net_host.specs.QueryStanding.{StandAs};
 ghost use Rattle.script_reader.specs.Reading.{arrival_of};
 ghost use Rattle.phy_layers.specs.PcapBytes.{epoch_micros, IsCapturable};
 
+use crate::arrived::{kind_of, note_for};
 use crate::emitter::Emitter;
 use crate::neighbors::Neighbors;
 use crate::queries::{end_queries, hear_response, poll_dns, serve, start};
-use crate::{HostConfig, LineList, ScriptEvent, SentList};
+use crate::{HostConfig, LineList, Row, ScriptEvent, SentList};
 use dhcp_client::{Event, Socket};
 use dns_client::DnsQuery;
-use host_model::{EventWords, Held, Outcome, QueryLine};
+use host_model::{EventWords, Held, Neighbor, Outcome, QueryLine};
 use managed::ManagedSlice;
 use net_wire::arp::arp_of;
 use net_wire::dns::DnsType;
@@ -40,16 +41,16 @@ use net_wire::{
 };
 use std::alloc::Global;
 
-/// The state of a host between two events.
+/// A host, between two events. It stands over places for the stations of its link and slots for its queries, which were lent.
 #[derive(Debug)]
-pub(crate) struct Host<'a, 'm> {
+pub struct Host<'a, 'm> {
     /// The longest IPv4 datagram of the link, in bytes.
-    pub ip_mtu: u16,
-    pub dhcp: Socket<'a>,
-    pub dns: dns_client::Socket<'m>,
+    pub(crate) ip_mtu: u16,
+    pub(crate) dhcp: Socket<'a>,
+    pub(crate) dns: dns_client::Socket<'m>,
     /// How many query events there were.
-    pub queries: u32,
-    pub out: Emitter<'m>,
+    pub(crate) queries: u32,
+    pub(crate) out: Emitter<'m>,
 }
 
 impl<'a, 'm> Drop for Host<'a, 'm> {
@@ -82,29 +83,31 @@ impl<'a, 'm> Host<'a, 'm> {
     ghost use Rattle.host_model.specs.History.{Entry, last_id};
     ghost use Rattle.net_host.specs.Agreement.{AgreesWithHistory};
     ghost use Rattle.net_host.specs.Config.{CanRun};
-    ghost use Rattle.net_host.specs.Handling.{HandlesEvent};
+    ghost use Rattle.host_model.specs.Anchor.{anchor_before};
+    ghost use Rattle.host_model.specs.Lease.{leased_under};
+    ghost use Rattle.host_model.specs.Queries.{counted};
+    ghost use Rattle.net_host.specs.Handling.{CanMeet, GivesRow, HandlesEvent, Meets};
     ghost use Rattle.net_host.specs.Holding.{host_lease};
     ghost use Rattle.net_host.specs.Report.{AreCapturable};
-    ghost use Rattle.net_host.specs.Neighbors.{no_pairs, pair_count, place_count};
-    ghost use Rattle.std.specs.Prelude.{[], ◌+◌, ◌≤◌};
+    ghost use Rattle.net_host.specs.Neighbors.{HasRoom, pair_count, place_count};
+    ghost use Rattle.std.specs.Prelude.{[], ◌+◌, ◌≤◌, length};
 
-    /// A host that has seen no event.
+    /// A host that has met no event, with a place for each station that it is to know. The places are emptied.
     pub fn new(
         alloc: Global,
         config: &HostConfig<'a>,
-        neighbors: Neighbors<'m>,
+        places: &'m mut [Option<(Ipv4Address, Neighbor)>],
         slots: &'m mut [Option<DnsQuery>],
     ) -> Host<'a, 'm>
-        requires neighbors { no_pairs neighbors }
         requires slots { slots.old ≡ replicate 16 None }
-        ensures agrees { AgreesWithHistory config.now [] result }
-        ensures ready { IsReady result.dhcp result.ip_mtu }
-        ensures neighbors { result.out.neighbors ≡ neighbors.entry }
         ensures runs { CanRun config.now }
-        ensures lent { AreLent (client_of result.dns) }
-        ensures holds { HoldsQueries result }
+        ensures agrees { AgreesWithHistory config.now [] result }
+        ensures can { CanMeet result }
         ensures queries { result.queries ≡ 0 }
+        ensures places { place_count result.out.neighbors ≡ length places.old }
+        ensures few { pair_count result.out.neighbors ≡ 0 }
     {
+        let neighbors = Neighbors::new(places);
         Host {
             ip_mtu: config.ip_mtu(),
             dhcp: Socket::with_config(config.client()),
@@ -133,7 +136,9 @@ impl<'a, 'm> Host<'a, 'm> {
 
     /// The leased address and its network's prefix; `None` without a lease.
     pub fn lease(&self) -> Option<Ipv4Cidr>
-        ensures { result ≡ host_lease self.now }
+        ensures value { result ≡ host_lease self.now }
+        ensures leased { (settings : Settings) (before : List Entry) → AgreesWithHistory settings before self.now
+            → result ≡ leased_under (anchor_before settings before) }
     {
         match self.out.held {
             Some(held) => Some(held.address),
@@ -141,8 +146,43 @@ impl<'a, 'm> Host<'a, 'm> {
         }
     }
 
-    /// Takes in an event, and gives the address that is leased then and the frames that are sent.
+    /// Takes in an event, and gives its row: what arrived, the address that is leased then, the frames that are sent and what became
+    /// of queries. Once memory ran out the host can't be used again.
     pub fn handle(
+        &mut self,
+        at: Instant,
+        event: ScriptEvent<'_>,
+        words: EventWords,
+    ) -> Result<Row, NoMemory>
+        requires can { CanMeet self.old }
+        requires time { IsCapturable at }
+        requires arrival { IsArrival (arrival_of event) }
+        requires number { self.old.queries < 10000 }
+        requires room { HasRoom self.old.out.neighbors }
+        // For whatever events came before: the row is that of the event, and the host goes on behind it.
+        ensures row { IfOk result (GivesRow at event.entry words self.old) }
+        ensures agrees { OnOk result (Meets at event.entry words self.old self.new) }
+        ensures can { OnOk result (CanMeet self.new) }
+        // The next event may come while there is a number for its query, and a place for its station.
+        ensures queries { OnOk result (self.new.queries ≡ counted (arrival_of event.entry) self.old.queries) }
+        ensures places { OnOk result (place_count self.new.out.neighbors ≡ place_count self.old.out.neighbors) }
+        ensures few { OnOk result (pair_count self.new.out.neighbors ≤ pair_count self.old.out.neighbors + 1) }
+    {
+        let kind = kind_of(event);
+        let note = note_for(event);
+        let handled = self.answer(at, event, words)?;
+        Ok(Row {
+            at,
+            kind,
+            note,
+            lease: handled.lease,
+            sent: handled.sent,
+            lines: handled.lines,
+        })
+    }
+
+    /// Takes in an event, and gives the address that is leased then and the frames that are sent.
+    pub(crate) fn answer(
         &mut self,
         at: Instant,
         event: ScriptEvent<'_>,
@@ -158,6 +198,7 @@ impl<'a, 'm> Host<'a, 'm> {
         ensures few { OnOk result (pair_count self.new.out.neighbors ≤ pair_count self.old.out.neighbors + 1) }
         ensures lent { OnOk result (AreLent (client_of self.new.dns)) }
         ensures holds { OnOk result (HoldsQueries self.new) }
+        ensures counts { OnOk result (self.new.queries ≡ counted (arrival_of event.entry) self.old.queries) }
         ensures queries { OnOk result (self.new.queries ≤ self.old.queries + 1) }
     {
         self.out.begin(epoch_micros(at));
@@ -272,6 +313,16 @@ impl<'a, 'm> Host<'a, 'm> {
         }
         Ok(())
     }
+}
+
+/// The slots of a host's queries, all free.
+pub fn no_queries() -> [Option<DnsQuery>; 16]
+    ensures { result ≡ replicate 16 None }
+{
+    [
+        None, None, None, None, None, None, None, None, None, None, None, None, None, None, None,
+        None,
+    ]
 }
 
 /// A moment in microseconds.

@@ -1,10 +1,11 @@
 //! The host: it reads a script of events, and answers each as the definitions of `host_model` say.
 #![tactic(auto)]
 
+mod arrived;
 pub mod config;
 mod emitter;
 mod hops;
-mod host;
+pub mod host;
 pub mod laws;
 mod neighbors;
 mod queries;
@@ -13,7 +14,8 @@ pub mod run_script;
 pub mod watcher;
 
 pub use config::{HostConfig, HostConfigError, HostValues};
-pub use host_model::{Outcome, QueryLine};
+pub use host::{Host, no_queries};
+pub use host_model::{EventWords, Neighbor, Outcome, QueryLine};
 pub use report::{Kind, LineList, Mark, Report, Row, Sent, SentList};
 pub use run_script::{RunError, run, run_over};
 pub use script_reader::{

@@ -15,22 +15,19 @@ ghost use Rattle.dns_client.specs.Client.{client_of};
 ghost use Rattle.net_host.specs.QueryPolling.{AreLent};
 ghost use Rattle.net_host.specs.QueryReady.{HoldsQueries};
 ghost use Rattle.net_host.specs.QueryRows.{CountsQueries};
-ghost use Rattle.net_host.specs.Rows.{kind_of, IsNoteFor};
 ghost use Rattle.net_host.specs.Outside.{outside_of, IsQuiet};
 ghost use Rattle.net_host.specs.Run.{task_of, task_over, Finished, Leaves, HasCause, Completes};
 ghost use Rattle.net_host.specs.Told.{told_by};
 ghost use Rattle.net_host.specs.Taking.{standing, TakesEvent, LeavesRow, LeavesEvent};
 ghost use Rattle.script_reader.specs.Reading.{arrival_of};
 
-use crate::host::Host;
-use crate::neighbors::Neighbors;
+use crate::arrived::{kind_of, note_for};
+use crate::host::no_queries;
 use crate::watcher::tell;
 use crate::{
-    Direct, EventReader, HostConfig, Kind, Link, ReadEventError, Report, ScriptEvent, ScriptSource,
+    Direct, EventReader, Host, HostConfig, Link, ReadEventError, Report, ScriptEvent, ScriptSource,
     Sent, Silent, Watcher,
 };
-use dns_client::DnsQuery;
-use ether_lax::{FrameNote, note_of};
 use host_model::{EventWords, Neighbor};
 use net_wire::{Instant, Ipv4Address, NoMemory};
 use phy_layers::{PcapLinkType, PcapSink, SinkError};
@@ -111,32 +108,6 @@ fn words_at(words: &[u32], place: u32) -> Option<EventWords>
     }
 }
 
-/// What a row says that an event was.
-fn kind_of(event: ScriptEvent<'_>) -> Kind
-    requires { IsArrival (arrival_of event) }
-    ensures { result ≡ kind_of (arrival_of event.entry) }
-{
-    match event {
-        ScriptEvent::Frame(frame) => Kind::Frame {
-            length: frame.len() as u16,
-        },
-        ScriptEvent::Tick => Kind::Tick,
-        ScriptEvent::Reset => Kind::Reset,
-        ScriptEvent::Query { .. } => Kind::Query,
-    }
-}
-
-/// The note of the frame that arrived, where one did.
-fn note_for(event: ScriptEvent<'_>) -> Option<FrameNote>
-    requires { IsArrival (arrival_of event) }
-    ensures { IsNoteFor (arrival_of event.entry) result }
-{
-    match event {
-        ScriptEvent::Frame(frame) => Some(note_of(frame)),
-        ScriptEvent::Tick | ScriptEvent::Reset | ScriptEvent::Query { .. } => None,
-    }
-}
-
 /// Captures the frame that arrived, where one did.
 fn capture_arrived<C: PcapSink>(
     capture: &mut C,
@@ -203,21 +174,11 @@ fn take_event<C: PcapSink>(
     let note = note_for(event);
     report.begin(host.out.alloc, at, kind_of(event), note, host.lease())?;
     capture_arrived(capture, at, event)?;
-    let handled = host.handle(at, event, words)?;
+    let handled = host.answer(at, event, words)?;
     let captured = capture_sent(capture, at, handled.sent.as_slice());
     report.fill_last(handled.lease, handled.sent, handled.lines);
     captured?;
     Ok(())
-}
-
-/// Slots for queries, all free.
-fn no_queries() -> [Option<DnsQuery>; 16]
-    ensures { result ≡ replicate 16 None }
-{
-    [
-        None, None, None, None, None, None, None, None, None, None, None, None, None, None, None,
-        None,
-    ]
 }
 
 /// A place for the neighbour that each event may tell of.
@@ -324,9 +285,8 @@ pub fn run_over<S: ScriptSource, L: Link, C: PcapSink, W: Watcher>(
     let mut reader = EventReader::new(alloc)?;
     let mut places = empty_places(alloc, max_events)?;
     capture.global_header(PcapLinkType::Ethernet)?;
-    let neighbors = Neighbors::new(places.as_mut_slice());
     let mut slots = no_queries();
-    let mut host = Host::new(alloc, config, neighbors, &mut slots);
+    let mut host = Host::new(alloc, config, places.as_mut_slice(), &mut slots);
     for count in 0..max_events + 1 {
         let Some(head) = reader.next_head(source, max_events)? else {
             return Ok(());

@@ -56,11 +56,11 @@ loop-count-init g c =
       within = omega arith;
       goes_on = refl;
       limit = tt;
-      ready = c.new-host.ensures.ready;
-      places = rw (c.new-host.ensures.neighbors, c.new-neighbors.ensures) (ap length c.as_mut_slice.ensures.value ∙ c.in_ok-places.ensures);
-      few = rw (c.new-host.ensures.neighbors, c.new-neighbors.ensures) (omega arith);
-      lent = c.new-host.ensures.lent;
-      holds = c.new-host.ensures.holds;
+      ready = c.new-host.ensures.can.ready;
+      places = c.new-host.ensures.places ∙ ap length c.as_mut_slice.ensures.value ∙ c.in_ok-places.ensures;
+      few = omega (arith, c.new-host.ensures.few);
+      lent = c.new-host.ensures.can.lent;
+      holds = c.new-host.ensures.can.holds;
       queries = omega (arith, c.new-host.ensures.queries);
       most = c.requires.max;
     })

@@ -17,7 +17,7 @@ returns-in_err-capture_arrived-clause-sink g c = λ is. inl (record {
   noted = c.note_for-note.ensures;
   placed = c.in_ok-begin.ensures.ok
       ∙ ap (λ k. c.args.report.now ++ new_row c.args.at k c.note_for-note.result c.lease.result ∷ []) c.kind_of.ensures
-      ∙ ap (λ l. c.args.report.now ++ new_row c.args.at (kind_of (arrival_of c.args.event)) c.note_for-note.result l ∷ []) c.lease.ensures;
+      ∙ ap (λ l. c.args.report.now ++ new_row c.args.at (kind_of (arrival_of c.args.event)) c.note_for-note.result l ∷ []) c.lease.ensures.value;
   captured = c.capture_arrived.ensures.front;
 })
 
@@ -27,7 +27,7 @@ returns-in_err-capture_arrived-clause-memory g c = λ is. inr (inl (record {
   noted = c.note_for-note.ensures;
   placed = c.in_ok-begin.ensures.ok
       ∙ ap (λ k. c.args.report.now ++ new_row c.args.at k c.note_for-note.result c.lease.result ∷ []) c.kind_of.ensures
-      ∙ ap (λ l. c.args.report.now ++ new_row c.args.at (kind_of (arrival_of c.args.event)) c.note_for-note.result l ∷ []) c.lease.ensures;
+      ∙ ap (λ l. c.args.report.now ++ new_row c.args.at (kind_of (arrival_of c.args.event)) c.note_for-note.result l ∷ []) c.lease.ensures.value;
   captured = c.capture_arrived.ensures.front;
 }))
 
@@ -37,13 +37,13 @@ returns-in_err-handled-clause-memory g c = λ is. inr (inl (record {
   noted = c.note_for-note.ensures;
   placed = c.in_ok-begin.ensures.ok
       ∙ ap (λ k. c.args.report.now ++ new_row c.args.at k c.note_for-note.result c.lease.result ∷ []) c.kind_of.ensures
-      ∙ ap (λ l. c.args.report.now ++ new_row c.args.at (kind_of (arrival_of c.args.event)) c.note_for-note.result l ∷ []) c.lease.ensures;
+      ∙ ap (λ l. c.args.report.now ++ new_row c.args.at (kind_of (arrival_of c.args.event)) c.note_for-note.result l ∷ []) c.lease.ensures.value;
   captured = c.capture_arrived.ensures.front;
 }))
 
 pub returns-in_err-captured-clause-sink : goal.returns-in_err-captured-clause-sink
 returns-in_err-captured-clause-sink g c = λ is.
-    let places = place_row c.args.at c.args.event c.args.words c.args.host.now c.handle.new.self (g.C.ByteSink.bytes c.args.capture.now)
+    let places = place_row c.args.at c.args.event c.args.words c.args.host.now c.answer.new.self (g.C.ByteSink.bytes c.args.capture.now)
     (g.C.ByteSink.bytes c.capture_sent-captured.new.capture) c.args.report.now c.begin.new.self c.fill_last.new.self
     c.kind_of.result c.note_for-note.result c.lease.result c.in_ok-handled.handled c.in_ok-begin.ensures.ok c.fill_last.ensures
     c.kind_of.ensures c.note_for-note.ensures c.in_ok-handled.ensures.value in
@@ -60,7 +60,7 @@ returns-in_err-captured-clause-sink g c = λ is.
 
 pub returns-in_err-captured-clause-memory : goal.returns-in_err-captured-clause-memory
 returns-in_err-captured-clause-memory g c = λ is.
-    let places = place_row c.args.at c.args.event c.args.words c.args.host.now c.handle.new.self (g.C.ByteSink.bytes c.args.capture.now)
+    let places = place_row c.args.at c.args.event c.args.words c.args.host.now c.answer.new.self (g.C.ByteSink.bytes c.args.capture.now)
     (g.C.ByteSink.bytes c.capture_sent-captured.new.capture) c.args.report.now c.begin.new.self c.fill_last.new.self
     c.kind_of.result c.note_for-note.result c.lease.result c.in_ok-handled.handled c.in_ok-begin.ensures.ok c.fill_last.ensures
     c.kind_of.ensures c.note_for-note.ensures c.in_ok-handled.ensures.value in
@@ -77,7 +77,7 @@ returns-in_err-captured-clause-memory g c = λ is.
 
 pub returns-clause-ok : goal.returns-clause-ok
 returns-clause-ok g c =
-    let places = place_row c.args.at c.args.event c.args.words c.args.host.now c.handle.new.self (g.C.ByteSink.bytes c.args.capture.now)
+    let places = place_row c.args.at c.args.event c.args.words c.args.host.now c.answer.new.self (g.C.ByteSink.bytes c.args.capture.now)
     (g.C.ByteSink.bytes c.capture_sent-captured.new.capture) c.args.report.now c.begin.new.self c.fill_last.new.self
     c.kind_of.result c.note_for-note.result c.lease.result c.in_ok-handled.handled c.in_ok-begin.ensures.ok c.fill_last.ensures
     c.kind_of.ensures c.note_for-note.ensures c.in_ok-handled.ensures.value in

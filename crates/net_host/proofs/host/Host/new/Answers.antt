@@ -1,9 +1,11 @@
 -- A host that has seen nothing agrees with no event.
 use Rattle.std.proofs.Common.{List, [], None, ◌∙◌, ap, refl, sym, subst}
+use Rattle.std.specs.Option.{is_some}
 use Rattle.net_wire.specs.declared.address.IpAddress.{IpAddress}
 use Rattle.dhcp_client.specs.Client.{new_client}
 use Rattle.host_model.specs.Anchor.{Loss}
 use Rattle.host_model.specs.QuerySlots.{no_queries}
+use Rattle.net_host.specs.Neighbors.{Table}
 use Rattle.net_host.specs.Following.{AgreesUnder}
 use Rattle.net_host.proofs.NeighborLemmas.{none_agrees}
 use Rattle.net_host.proofs.ReadyLemmas.{new_ready}
@@ -20,7 +22,7 @@ returns-clause-agrees c =
       hardware = c.hardware.ensures.value;
       ip_mtu = c.ip_mtu.ensures;
       held = refl;
-      neighbors = none_agrees c.args.config.now c.args.neighbors c.requires.neighbors;
+      neighbors = none_agrees c.args.config.now c.new-neighbors.result (ap (λ (t : Table). t.stations) c.new-neighbors.ensures);
       dhcp = subst (λ (servers : List IpAddress).
           AgreesUnder c.args.config.now [] (Loss 0) (record { held = None; servers = servers }) c.with_config.result) (sym none)
           (new_agrees c.args.config.now c.with_config.result (c.with_config.ensures ∙ ap new_client c.client.ensures.value));
@@ -35,19 +37,19 @@ returns-clause-agrees c =
       };
     }
 
-pub returns-clause-ready : goal.returns-clause-ready
-returns-clause-ready c =
-    new_ready c.args.config.now c.with_config.result c.ip_mtu.result (c.with_config.ensures ∙ ap new_client c.client.ensures.value)
-    c.ip_mtu.ensures c.hardware.ensures.runs
-
-pub returns-clause-holds : goal.returns-clause-holds
-returns-clause-holds c = record {
-  servers = [];
-  slots = no_queries;
-  stand = record {
-    servers_are = ap (λ client. client.servers) c.new.ensures.value;
-    slots_are = ap (λ client. client.slots) c.new.ensures.value ∙ c.requires.slots;
-    numbers_are = refl;
-    no_hop_limit = ap (λ client. client.hop_limit) c.new.ensures.value;
+pub returns-clause-can : goal.returns-clause-can
+returns-clause-can c = record {
+  ready = new_ready c.args.config.now c.with_config.result c.ip_mtu.result (c.with_config.ensures ∙ ap new_client c.client.ensures.value)
+      c.ip_mtu.ensures c.hardware.ensures.runs;
+  lent = ap (λ client. is_some client.storage) c.new.ensures.value;
+  holds = record {
+    servers = [];
+    slots = no_queries;
+    stand = record {
+      servers_are = ap (λ client. client.servers) c.new.ensures.value;
+      slots_are = ap (λ client. client.slots) c.new.ensures.value ∙ c.requires.slots;
+      numbers_are = refl;
+      no_hop_limit = ap (λ client. client.hop_limit) c.new.ensures.value;
+    };
   };
 }
