@@ -7,6 +7,7 @@ pub mod captures;
 pub mod cuts;
 pub mod dissection;
 pub mod disturbing;
+pub mod granting;
 pub mod headers;
 pub mod ipsec;
 pub mod layers;
@@ -17,5 +18,5 @@ pub mod queries;
 pub mod rules;
 pub mod runs;
 pub mod scripts;
-pub mod serving;
+
 pub mod sums;
