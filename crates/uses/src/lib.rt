@@ -18,5 +18,4 @@ pub mod queries;
 pub mod rules;
 pub mod runs;
 pub mod scripts;
-
 pub mod sums;
