@@ -37,6 +37,8 @@ mod outside;
 #[cfg(test)]
 mod plain;
 #[cfg(test)]
+mod printed;
+#[cfg(test)]
 mod queries;
 #[cfg(test)]
 mod replies;
@@ -44,6 +46,8 @@ mod replies;
 mod responses;
 #[cfg(test)]
 mod runs;
+#[cfg(test)]
+mod served;
 #[cfg(test)]
 mod texts;
 #[cfg(test)]

@@ -221,6 +221,11 @@ pub unplain : {X : Type 0} (f : X → List ℕ) (words : List X) → ((command :
 unplain f words none other (command, inl named) = none command named
 unplain f words none other (command, inr named) = other named.behind named.are
 
+-- words that begin with another word
+pub not_opened : (words rest : List (List ℕ)) (word : List ℕ) → words ≡ word ∷ rest → (word ≡ codes "live" → ⊥)
+    → (behind : List (List ℕ)) → words ≡ codes "live" ∷ behind → ⊥
+not_opened words rest word are other behind is = other (one_first words word (codes "live") rest behind are is)
+
 -- words whose command cannot be live
 pub not_live : (words : List (List ℕ)) (command : Command) → NameWork words command → (CanBeLive command → ⊥)
     → (other : Command) → NameLiveWork words other → ⊥
@@ -293,8 +298,8 @@ asked_by words (Some asked) found refuses = are_names words asked found
 
 -- words that name a reading of a capture ask for that
 pub asked_of_capture : (words : List (List ℕ)) (asked : Option Command) (named : AskOfCapture words) → Ask words asked → asked ≡ Some named.0
-asked_of_capture words None named none = absurd (none (named.0, inl named.1.1))
-asked_of_capture words (Some command) named asks = ap Some (names_one words command named.0 asks (inl named.1.1))
+asked_of_capture words None named none = absurd (none (named.0, inl named.1))
+asked_of_capture words (Some command) named asks = ap Some (names_one words command named.0 asks (inl named.1))
 
 mtu_or_default : (value : Option ℕ) → IfSome value (λ bytes. (576 ≤ bytes) × (bytes ≤ 1500))
     → (576 ≤ unwrap_or value 1500) × (unwrap_or value 1500 ≤ 1500)

@@ -24,7 +24,7 @@ use Rattle.server_run.specs.Served.{Finished as IsServed, HasCause}
 use Rattle.host_top.specs.declared.serve_command.ServeCommand.{ServeCommand}
 use Rattle.host_top.specs.Explain.{TellsLines}
 use Rattle.host_top.specs.Serve.{ending_served, values_named}
-use Rattle.host_top.specs.Status.{ComesExactly, IsStatusOf, IsUnlessNoMemory}
+use Rattle.host_top.specs.Status.{ComesExactly, IsStatusOf}
 use Rattle.host_top.proofs.ExplainLemmas.{explain_complete, explain_unrefused}
 use Rattle.host_top.proofs.ServeLemmas.{serve_unrefused}
 

@@ -1,8 +1,6 @@
 -- The words of a lease server.
 use Rattle.std.proofs.Common.{◌≡◌, ℕ, List, Option, Some, None, Result, Ok, Err, IfSome, OnOk, IfErr, refl, ap, sym, ◌∙◌, arith}
 use Rattle.std.proofs.lemmas.Option.{none-some}
-use Rattle.net_wire.specs.declared.address.EthernetAddress.{EthernetAddress}
-use Rattle.net_wire.specs.declared.address.Ipv4Address.{Ipv4Address}
 use Rattle.lease_server.specs.Values.{Values, refused}
 use Rattle.lease_server.specs.declared.values.ServerError.{ServerError}
 use Rattle.wire_base.specs.Causes.{IsRisen}

@@ -1,5 +1,5 @@
 -- The words that name a lease server, and what it leaves.
-use Rattle.std.specs.Prelude.{◌≡◌, ℕ, ◌≤◌, List, [], Option, None, Result, Ok, Err, OnOk, IfErr, length}
+use Rattle.std.specs.Prelude.{◌≡◌, ℕ, ◌≤◌, List, [], None, Result, Ok, Err, OnOk, IfErr, length}
 use Rattle.lease_server.specs.Values.{Values, refused}
 use Rattle.host_top.specs.declared.serve_command.ServeCommand.{ServeCommand}
 use Rattle.net_host.specs.Outside.{Outside, IsQuiet}

@@ -3,8 +3,8 @@ ghost use Rattle.std.specs.Prelude.{◌≡◌};
 ghost use Rattle.capture_explain.specs.Text.{Puts};
 ghost use Rattle.host_top.specs.Ending.{status_of, status_after, last_line};
 
-use capture_explain::text::{put, put_number};
 use crate::usage::put_usage;
+use capture_explain::text::{put, put_number};
 use phy_layers::{ByteSink, SinkError};
 
 /// How a command ended, but for faults of the output.

@@ -26,10 +26,10 @@ ghost use Rattle.host_top.specs.Summary.{summary_text};
 ghost use Rattle.capture_explain.specs.Text.{Puts};
 ghost use Rattle.host_top.specs.Usage.{help_text};
 
+use crate::capture_command::{CaptureCommand, explain_named, print_named};
 use crate::command::{Asked, Command, MakeCommand, RunCommand, parse};
 use crate::disturb_command::{DisturbCommand, run_over_bad_link};
 use crate::ending::{Ending, Finish, put_last_line};
-use crate::capture_command::{CaptureCommand, explain_named, print_named};
 use crate::printer::RowPrinter;
 use crate::report_text::report_text;
 use crate::running::{run_made, run_named};

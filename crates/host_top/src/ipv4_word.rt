@@ -26,12 +26,7 @@ fn address_with(a: &[u8], b: &[u8], c: &[u8], d: &[u8]) -> Option<Ipv4Address>
     ensures refuses { IfNone result ((address : Ipv4Address)
         → AllZip IsOctetWord (a.now ∷ b.now ∷ c.now ∷ d.now ∷ []) address.0 → ⊥) }
 {
-    Some(Ipv4Address([
-        octet_of(a)?,
-        octet_of(b)?,
-        octet_of(c)?,
-        octet_of(d)?,
-    ]))
+    Some(Ipv4Address([octet_of(a)?, octet_of(b)?, octet_of(c)?, octet_of(d)?]))
 }
 
 /// What stands before the first point of a word, and behind it.

@@ -41,11 +41,7 @@ pub(crate) fn put_served<O: ByteSink>(
     put(out, answer, b"\n");
 }
 
-fn put_answered<O: ByteSink>(
-    out: &mut O,
-    answer: &mut Result<(), SinkError>,
-    answered: Answered,
-)
+fn put_answered<O: ByteSink>(out: &mut O, answer: &mut Result<(), SinkError>, answered: Answered)
     ensures { Puts O.bytes O.faults O.grows answer.old answer.new (answered_text answered) out.old out.new }
 {
     match answered {

@@ -1,4 +1,4 @@
-use Rattle.std.proofs.Common.{◌+◌, ℕ, List, refl, subst, sym, ◌∙◌, arith}
+use Rattle.std.proofs.Common.{ℕ, List, refl, subst, sym, arith}
 use Rattle.std.specs.String.{string_bytes}
 use Rattle.host_top.specs.Disturb.{IsChanceWord}
 use Rattle.host_top.specs.RunWords.{IsCountWord}
@@ -47,7 +47,6 @@ returns-in_err-chance_of-2-clause-refuses c =
     c.corrupt-item.is c.as_bytes-6.ensures.value in
     rw c.from_residual-in_err-chance_of-2.ensures (λ disturb writes.
     c.in_err-chance_of-2.ensures.refuses disturb.corrupt_chance (subst (λ (w : List ℕ). IsChanceWord w disturb.corrupt_chance) is writes.corrupt))
-
 
 pub returns-clause-found : goal.returns-clause-found
 returns-clause-found c = record {

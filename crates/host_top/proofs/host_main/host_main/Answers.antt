@@ -41,4 +41,4 @@ returns-clause-queries g c = counts_of _ _ _ _ _ _ c.obey-finish.ensures.ended.e
 pub returns-clause-uncaptured : goal.returns-clause-uncaptured
 returns-clause-uncaptured g c = λ asks.
     c.obey-finish.ensures.uncaptured asks.0
-    (asked_of_capture _ _ asks (asked_by _ _ c.parse-asked.ensures.found c.parse-asked.ensures.refuses)) asks.1.1
+    (asked_of_capture _ _ asks (asked_by _ _ c.parse-asked.ensures.found c.parse-asked.ensures.refuses)) asks.2

@@ -8,9 +8,11 @@ returns g c =
     let found = c.print_named-ending.ensures in
     let P : List ℕ → Type 0 = λ l.
     Took g.O.ByteSink.bytes g.O.ByteSink.faults g.O.ByteSink.grows c.flush.new.answer l c.args.out.now c.flush.new.out in
-    (
-      found.0,
-      found.1.0,
-      subst P (append-nil (found.0 ++ last_line c.print_named-ending.result))
-          (c.flush.ensures.goes_on _ _ (c.put_last_line.ensures.goes_on _ _ (found.1.1.goes_on _ [] (search rules)))),
-    )
+    record {
+      printed = (
+        found.0,
+        found.1,
+        subst P (append-nil (found.0 ++ last_line c.print_named-ending.result))
+            (c.flush.ensures.goes_on _ _ (c.put_last_line.ensures.goes_on _ _ (found.2.goes_on _ [] (search rules)))),
+      );
+    }

@@ -1,11 +1,12 @@
-use Rattle.std.proofs.Common.{◌≡◌, OnOk, IfErr, subst}
+use Rattle.std.proofs.Common.{◌∙◌, OnOk, IfErr, ap, subst}
 use Rattle.net_host.specs.Outside.{outside_of}
-use Rattle.lease_server.specs.Values.{Values, values_of}
+use Rattle.lease_server.specs.Values.{Values, refused}
 use Rattle.server_run.specs.Served.{Finished, Leaves}
 use Rattle.host_top.proofs.serve_command.serve_named.Goals as goal
 
 pub serve_over-answer-requires-clause-checked : goal.serve_over-answer-requires-clause-checked
-serve_over-answer-requires-clause-checked g c = rw c.values_of-values.ensures c.requires.servable.accepted
+serve_over-answer-requires-clause-checked g c =
+    ap refused c.values_of-values.ensures ∙ c.requires.servable.accepted
 
 pub returns-clause-served : goal.returns-clause-served
 returns-clause-served g c =

@@ -1,4 +1,4 @@
-use Rattle.std.proofs.Common.{◌+◌, ℕ, List, refl, subst, sym, ◌∙◌, arith}
+use Rattle.std.proofs.Common.{ℕ, List, subst, sym, arith}
 use Rattle.std.specs.String.{string_bytes}
 use Rattle.host_top.specs.Serve.{IsRangeWord, IsPrefixWord}
 use Rattle.host_top.specs.Ipv4Word.{IsIpv4Word}
@@ -55,7 +55,6 @@ returns-in_err-count_of-clause-refuses c =
     c.max_events-item.is c.as_bytes-7.ensures.value in
     rw c.from_residual-in_err-count_of.ensures (λ serve writes.
     c.in_err-count_of.ensures.refuses serve.max_events (subst (λ (w : List ℕ). IsCountWord w serve.max_events) is writes.max))
-
 
 pub returns-clause-found : goal.returns-clause-found
 returns-clause-found c = record {
