@@ -12,6 +12,7 @@ pub mod HostConfig
 pub mod Lines
 pub mod Listed
 pub mod ListedCut
+pub mod Moments
 pub mod NeighborPlaces
 pub mod Neighbors
 pub mod Outside
@@ -29,3 +30,4 @@ pub mod Run
 pub mod RunError
 pub mod Taking
 pub mod Told
+pub mod Waiting
