@@ -28,6 +28,7 @@ pub mod Report
 pub mod Rows
 pub mod Run
 pub mod RunError
+pub mod Stepping
 pub mod Taking
 pub mod Told
 pub mod Waiting

@@ -90,7 +90,8 @@ impl<'a, 'm> Host<'a, 'm> {
     ghost use Rattle.host_model.specs.Anchor.{anchor_before};
     ghost use Rattle.host_model.specs.Lease.{leased_under};
     ghost use Rattle.host_model.specs.Queries.{counted};
-    ghost use Rattle.net_host.specs.Handling.{CanMeet, GivesRow, HandlesEvent, Meets};
+    ghost use Rattle.net_host.specs.Handling.{CanMeet, HandlesEvent};
+    ghost use Rattle.net_host.specs.Stepping.{GivesRow, Meets};
     ghost use Rattle.net_host.specs.Holding.{host_lease};
     ghost use Rattle.net_host.specs.Moments.{next_moment};
     ghost use Rattle.net_host.specs.Report.{AreCapturable};
