@@ -18,4 +18,5 @@ pub mod rules;
 pub mod runs;
 pub mod scripts;
 pub mod serving;
+pub mod steps;
 pub mod sums;
