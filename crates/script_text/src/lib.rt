@@ -2,6 +2,8 @@
 #![tactic(auto)]
 
 mod captured;
+pub mod examples;
+pub mod laws;
 mod line;
 mod showing;
 
