@@ -5,3 +5,4 @@ pub mod ShownLemmas
 pub mod VerdictLemmas
 pub mod ReadBackLemmas
 pub mod TextLemmas
+pub mod WordLemmas

@@ -1,4 +1,5 @@
--- The commands of a text and the keys of its settings, as tables: a further command, or a further key, is a line.
+-- The commands of a text and the keys of its settings, as tables: a further command, or a further key, is a
+-- line.
 use Rattle.std.specs.Prelude.{ℕ, ◌==◌, ◌||◌, ◌&&◌, if◌then◌else◌, Bool, true, false, List, [], ◌∷◌, find, Option, Some, None, codes, option_map}
 use Rattle.std.specs.List.{list_any, before_first, after_first}
 use Rattle.std.specs.Str.{bytes_eq}
@@ -24,8 +25,8 @@ type_form word =
 abbrev pub name_form : Form
 name_form word = option_map BytesValue (name_of word)
 
--- A command: its word, the forms of the words behind it, whether bytes in hexadecimal digits follow, and what it
--- brings, by what its words write.
+-- A command: its word, the forms of the words behind it, whether bytes in hexadecimal digits follow, and what
+-- it brings, by what its words write.
 pub record Command : Type 0 where
   pub word : List ℕ
   pub forms : List Form
@@ -40,7 +41,12 @@ abbrev pub commands : List Command
 commands =
     record { word = codes "tick"; forms = []; has_bytes = false; brings = λ _ _. Some Tick }
     ∷ record { word = codes "reset"; forms = []; has_bytes = false; brings = λ _ _. Some Reset }
-    ∷ record { word = codes "query"; forms = type_form ∷ name_form ∷ []; has_bytes = false; brings = query_of }
+    ∷ record {
+      word = codes "query";
+      forms = type_form ∷ name_form ∷ [];
+      has_bytes = false;
+      brings = query_of;
+    }
     ∷ record { word = codes "frame"; forms = []; has_bytes = true; brings = λ _ bytes. Some (Frame bytes) }
     ∷ []
 

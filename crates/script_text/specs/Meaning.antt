@@ -25,7 +25,8 @@ read_forms place (form ∷ forms) (word ∷ words) = or_wrong place (form word)
 
 -- the bytes of words, at most `room`
 abbrev pub bytes_within : ℕ → List ℕ → Option (List ℕ)
-bytes_within room word = option_and_then (λ bytes. where_true (nat_le (length bytes) room) bytes) (hex_bytes word)
+bytes_within room word =
+    option_and_then (λ bytes. where_true (nat_le (length bytes) room) bytes) (hex_bytes word)
 
 abbrev pub read_bytes : ℕ → ℕ → List (List ℕ) → Result (List ℕ) ℕ
 read_bytes place room [] = Ok []

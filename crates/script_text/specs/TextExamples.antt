@@ -15,7 +15,8 @@ text (line ∷ lines) = line ++ 0x0a ∷ [] ++ text lines
 
 -- tab, space and carriage return stand between words; a comment begins inside a word too
 pub record HasWords : Type 0 where
-  pub blanks : words_of (0x20 ∷ [] ++ codes "1" ++ 0x09 ∷ 0x20 ∷ [] ++ codes "tick" ++ 0x0d ∷ []) ≡ codes "1" ∷ codes "tick" ∷ []
+  pub blanks : words_of (0x20 ∷ [] ++ codes "1" ++ 0x09 ∷ 0x20 ∷ [] ++ codes "tick" ++ 0x0d ∷ [])
+      ≡ codes "1" ∷ codes "tick" ∷ []
   pub comment : words_of (codes "1 ti#ck reset") ≡ codes "1" ∷ codes "ti" ∷ []
   pub none : words_of (codes "  # 1 tick") ≡ []
 
@@ -34,7 +35,8 @@ pub record HasBytes : Type 0 where
   pub odd : hex_bytes (codes "0af") ≡ None
   pub other : hex_bytes (codes "0g") ≡ None
 
--- \ and two digits are a byte; a blank, a #, a \ and 7f are none by themselves, and a byte from 80 on is itself
+-- \ and two digits are a byte; a blank, a #, a \ and 7f are none by themselves, and a byte from 80 on is
+-- itself
 pub record HasEscapes : Type 0 where
   pub blank : unescaped (codes "a" ++ 0x5c ∷ codes "20b") ≡ Some (codes "a b")
   pub upper : unescaped (0x5c ∷ codes "fF") ≡ Some (0xff ∷ [])
@@ -45,8 +47,8 @@ pub record HasEscapes : Type 0 where
   pub delete : unescaped (codes "a" ++ 0x7f ∷ []) ≡ None
   pub hyphen : name_of (codes "-") ≡ Some []
 
--- times may be the same and may be counted from the event before; lines without words, and without a line feed at the
--- end, are lines
+-- times may be the same and may be counted from the event before; lines without words, and without a line
+-- feed at the end, are lines
 pub record HasEvents : Type 0 where
   pub times : verdict 3 (text (codes "0 tick" ∷ codes "9.999999 tick" ∷ codes "+0.000001 reset" ∷ []))
       ≡ Right (event 0 Tick ∷ event 9999999 Tick ∷ event 10000000 Reset ∷ [])
@@ -73,7 +75,8 @@ pub record HasWrongWords : Type 0 where
 -- settings: one at least, each key once
 pub record HasSettings : Type 0 where
   pub some : verdict 1 (codes "set dns=192.168.1.53 lease=1000 t1=none") ≡ Right []
-  pub stations : verdict 1 (codes "set client=02:00:00:00:00:35 server=10.0.0.1 prefix=08 router=none") ≡ Right []
+  pub stations : verdict 1 (codes "set client=02:00:00:00:00:35 server=10.0.0.1 prefix=08 router=none")
+      ≡ Right []
   pub plain_station : verdict 1 (codes "set client=0200000000FF") ≡ Right []
   pub two_servers : verdict 1 (codes "set dns=1.2.3.4,5.6.7.8") ≡ Right []
   pub none : verdict 1 (codes "set") ≡ Wrong 1 2

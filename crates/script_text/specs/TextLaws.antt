@@ -11,16 +11,20 @@ pub record IsOneOfThree : Type 0 where
   pub some : (max : ℕ) (text : List ℕ)
       → ((events : List Event) × IsRight max text events)
       ⊎ (IsLong max text ⊎ ((line : ℕ) × ((word : ℕ) × IsWrongAt max text line word)))
-  pub not_long : (max : ℕ) (text : List ℕ) (events : List Event) → IsRight max text events → IsLong max text → ⊥
+  pub not_long : (max : ℕ) (text : List ℕ) (events : List Event)
+      → IsRight max text events → IsLong max text → ⊥
   pub not_wrong : (max : ℕ) (text : List ℕ) (events : List Event) (line word : ℕ) → IsRight max text events
       → IsWrongAt max text line word → ⊥
-  pub long_or_wrong : (max : ℕ) (text : List ℕ) (line word : ℕ) → IsLong max text → IsWrongAt max text line word → ⊥
+  pub long_or_wrong : (max : ℕ) (text : List ℕ) (line word : ℕ)
+      → IsLong max text → IsWrongAt max text line word → ⊥
 
 -- What is written of a time, of the bytes of a frame and of a name is read again.
 pub record ReadsWords : Type 0 where
   pub time : (last at : ℕ) → last ≤ at → at < time_limit → time_of last (time_text at) ≡ Some at
-  pub bytes : (bytes : List ℕ) → All (λ byte. byte < 256) bytes → hex_bytes (flat_map hex_byte bytes) ≡ Some bytes
-  pub name : (name : List ℕ) → All (λ byte. byte < 256) name → IsName name → name_of (name_text name) ≡ Some name
+  pub bytes : (bytes : List ℕ) → All (λ byte. byte < 256) bytes
+      → hex_bytes (flat_map hex_byte bytes) ≡ Some bytes
+  pub name : (name : List ℕ) → All (λ byte. byte < 256) name → IsName name
+      → name_of (name_text name) ≡ Some name
 
 -- the numbers of what events bring are bytes
 abbrev pub IsOfBytes : Arrival → Type 0

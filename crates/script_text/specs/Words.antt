@@ -41,7 +41,8 @@ next_time last at = where_true (nat_le last at && nat_lt at time_limit) at
 -- the time that a word writes behind an event at the time `last`: with a + in front it counts from there
 abbrev pub time_of : ℕ → List ℕ → Option ℕ
 time_of last word =
-    if slice_index word 0 == 0x2b then option_and_then (λ later. next_time last (last + later)) (micros_of (drop 1 word))
+    if slice_index word 0 == 0x2b
+    then option_and_then (λ later. next_time last (last + later)) (micros_of (drop 1 word))
     else option_and_then (next_time last) (micros_of word)
 
 abbrev pub is_hex : ℕ → Bool
@@ -73,7 +74,8 @@ unescaped (byte ∷ []) = if is_itself byte then Some (byte ∷ []) else None
 unescaped (byte ∷ next ∷ []) = if is_itself byte then in_front byte (unescaped (next ∷ [])) else None
 unescaped (byte ∷ high ∷ low ∷ word) =
     if is_itself byte then in_front byte (unescaped (high ∷ low ∷ word))
-    else if (byte == 0x5c) && is_hex high && is_hex low then in_front (pair_value high low) (unescaped word) else None
+    else if (byte == 0x5c) && is_hex high && is_hex low then in_front (pair_value high low) (unescaped word)
+    else None
 
 -- at most 255 bytes of UTF-8
 abbrev pub as_name : List ℕ → Option (List ℕ)

@@ -6,6 +6,7 @@ pub mod examples;
 pub mod laws;
 mod line;
 mod showing;
+pub mod words;
 
 pub use captured::{FramesError, frames};
 pub use line::event_text;

@@ -18,3 +18,4 @@ pub mod rules;
 pub mod runs;
 pub mod scripts;
 pub mod sums;
+pub mod texts;
