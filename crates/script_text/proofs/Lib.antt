@@ -6,3 +6,4 @@ pub mod VerdictLemmas
 pub mod ReadBackLemmas
 pub mod TextLemmas
 pub mod WordLemmas
+pub mod ValidLemmas

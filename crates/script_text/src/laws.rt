@@ -1,5 +1,5 @@
 //! Laws of texts, as calls without a body.
-ghost use Rattle.script_text.specs.TextLaws.{IsOneOfThree, ReadsWords, ReadsTexts};
+ghost use Rattle.script_text.specs.TextLaws.{IsOneOfThree, HasScript, ReadsWords, ReadsTexts};
 
 /// A text is exactly one of right, long and wrong.
 pub fn a_text_is_one_of_three()
@@ -14,4 +14,9 @@ pub fn words_are_read_again()
 /// The text of events is right, and has these events.
 pub fn texts_are_read_again()
     ensures { ReadsTexts }
+{}
+
+/// The events of a right text are those of a script.
+pub fn right_texts_are_scripts()
+    ensures { HasScript }
 {}
