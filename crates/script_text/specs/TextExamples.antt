@@ -1,6 +1,8 @@
 -- Texts made by hand.
 use Rattle.std.specs.Prelude.{◌≡◌, ℕ, List, [], ◌∷◌, ◌++◌, codes, Some, None}
-use Rattle.host_model.specs.Script.{Arrival, Tick, Reset, Frame, Event}
+use Rattle.net_wire.specs.declared.dns.dns_type.DnsType.TheVariants.{A, Aaaa}
+use Rattle.host_model.specs.Script.{Arrival, Tick, Reset, Frame, Query, Event}
+use Rattle.script_text.specs.EventText.{event_line}
 use Rattle.script_text.specs.Lines.{words_of}
 use Rattle.script_text.specs.Meaning.{Right, Long, Wrong, verdict}
 use Rattle.script_text.specs.Words.{micros_of, name_of, hex_bytes, unescaped}
@@ -94,3 +96,15 @@ pub record HasLimits : Type 0 where
   pub any : verdict 1 (text (codes "0 tick" ∷ codes "x" ∷ [])) ≡ Long
   pub event_line : verdict 1 (text (codes "0 tick" ∷ codes "1 tick" ∷ [])) ≡ Long
   pub wrong_setting : verdict 1 (text (codes "0 tick" ∷ codes "set x" ∷ [])) ≡ Wrong 2 2
+
+-- six digits behind the point; a blank in a name, a name that is a hyphen, an empty one, and frames
+pub record HasLines : Type 0 where
+  pub tick : event_line (event 0 Tick) ≡ codes "0.000000 tick" ++ 0x0a ∷ []
+  pub reset : event_line (event 12000005 Reset) ≡ codes "12.000005 reset" ++ 0x0a ∷ []
+  pub blank : event_line (event 1500000 (Query Aaaa (codes "a b")))
+      ≡ codes "1.500000 query AAAA a" ++ 0x5c ∷ codes "20b" ++ 0x0a ∷ []
+  pub hyphen : event_line (event 2000000 (Query A (codes "-")))
+      ≡ codes "2.000000 query A " ++ 0x5c ∷ codes "2d" ++ 0x0a ∷ []
+  pub no_name : event_line (event 2000000 (Query A [])) ≡ codes "2.000000 query A -" ++ 0x0a ∷ []
+  pub no_frame : event_line (event 2000000 (Frame [])) ≡ codes "2.000000 frame" ++ 0x0a ∷ []
+  pub frame : event_line (event 3000000 (Frame (0x0a ∷ 0xff ∷ []))) ≡ codes "3.000000 frame 0aff" ++ 0x0a ∷ []

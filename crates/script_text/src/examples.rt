@@ -1,5 +1,5 @@
 //! Texts on examples, as calls without a body.
-ghost use Rattle.script_text.specs.TextExamples.{HasWords, HasTimes, HasBytes, HasEscapes, HasEvents, HasWrongWords, HasSettings, HasLimits};
+ghost use Rattle.script_text.specs.TextExamples.{HasLines, HasWords, HasTimes, HasBytes, HasEscapes, HasEvents, HasWrongWords, HasSettings, HasLimits};
 
 /// The words of a line.
 pub fn lines_have_words()
@@ -39,4 +39,9 @@ pub fn settings_are_tried()
 /// Texts with as many events as there may be.
 pub fn limits_are_kept()
     ensures { HasLimits }
+{}
+
+/// The lines of events.
+pub fn events_have_lines()
+    ensures { HasLines }
 {}
