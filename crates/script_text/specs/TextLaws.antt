@@ -42,7 +42,7 @@ abbrev pub ReadsTexts : Type 0
 ReadsTexts = (max : ℕ) (events : List Event) → AreInOrder 0 events → length events ≤ max → AreOfBytes events
     → IsRight max (events_text events) events
 
--- The events of a right text are those of a script: in the order of their times, and no more than there may be.
+-- The events of a right text are those of a script: in the order of their times, and no more than may be.
 abbrev pub HasScript : Type 0
 HasScript = (max : ℕ) (text : List ℕ) (events : List Event) → IsRight max text events
     → AreInOrder 0 events × (length events ≤ max)

@@ -3,7 +3,8 @@ ghost use Rattle.std.specs.Prelude.{◌≡◌, ◌≤◌, [], ◌∷◌, length,
 ghost use Rattle.std.specs.List.{prefix_len};
 ghost use Rattle.script_text.specs.Lines.{is_blank, is_inside, words_of};
 
-/// The first word of a line, and what stands behind it. There is none where a line has no word in front of its comment.
+/// The first word of a line, and what stands behind it. There is none where a line has no word in front of
+/// its comment.
 pub fn next_word(line: &[u8]) -> Option<(&[u8], &[u8])>
     ensures found { IfSome result (λ found. words_of line.now ≡ found.0.now ∷ words_of found.1.now) }
     ensures none { IfNone result (words_of line.now ≡ []) }
