@@ -20,3 +20,4 @@ pub mod scripts;
 pub mod serving;
 pub mod steps;
 pub mod sums;
+pub mod texts;
