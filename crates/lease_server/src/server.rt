@@ -15,13 +15,26 @@ const MOST: usize = 1000;
 const OFFER_MICROS: u64 = 60_000_000;
 
 /// A DHCP server over places that its user lends: one for each address of the range.
-#[derive(Drop)]
 pub struct Server<'a> {
     values: ServerValues,
     clients: ManagedMap<'a, EthernetAddress, SlotKey>,
     leases: SlotMap<'a, Lease>,
     /// When the last call was, in microseconds.
     last: u64,
+}
+
+impl<'a> Drop for Server<'a> {
+    fn drop(self) {
+        let Server {
+            values,
+            clients,
+            leases,
+            last: _,
+        } = self;
+        let _ = values;
+        let _ = clients;
+        let _ = leases;
+    }
 }
 
 impl<'a> Model for Server<'a> {

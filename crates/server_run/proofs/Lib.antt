@@ -1,0 +1,12 @@
+pub mod AnsweredLemmas
+pub mod ClassLemmas
+pub mod CompleteLemmas
+pub mod PlacingLemmas
+pub mod ProgressLemmas
+pub mod PushLemmas
+pub mod ReadLemmas
+pub mod RefusedLemmas
+pub mod SizeLemmas
+pub mod StoppedLemmas
+pub mod StorageLemmas
+pub mod TellingLemmas
