@@ -4,3 +4,4 @@ pub mod Disturbing
 pub mod Muffled
 pub mod Reached
 pub mod Reported
+pub mod Served

@@ -17,4 +17,5 @@ pub mod queries;
 pub mod rules;
 pub mod runs;
 pub mod scripts;
+pub mod serving;
 pub mod sums;
