@@ -5,3 +5,4 @@ pub mod Leasing
 pub mod Muffled
 pub mod Reached
 pub mod Reported
+pub mod Served

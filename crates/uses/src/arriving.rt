@@ -6,8 +6,8 @@ ghost use Rattle.uses.specs.Arriving.{is_dhcp_reply, asks_for, answer_to, reply_
 
 use net_wire::arp::{REPLY, REQUEST};
 use net_wire::{
-    ArpRepr, EthernetAddress, EthernetProtocol, EthernetRepr, Ipv4Address, Sources, arp_frame, arp_of,
-    datagram_of,
+    ArpRepr, EthernetAddress, EthernetProtocol, EthernetRepr, Ipv4Address, Sources, arp_frame,
+    arp_of, datagram_of,
 };
 
 /// The port of DHCP servers (RFC 2131, section 4.1).
