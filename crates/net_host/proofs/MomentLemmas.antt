@@ -13,7 +13,7 @@ use Rattle.host_model.specs.QueryTurns as turns
 use Rattle.net_host.specs.Following.{is_rebinding, rebind_due, renew_due, state_with}
 use Rattle.net_host.specs.Moments.{first_query_moment, lease_moment, moment, query_moment, rebind_moment}
 use Rattle.net_host.specs.QueryStanding.{standing_in, turn_for}
-use Rattle.net_host.specs.Waiting.{first_rebinding, first_renewal, state_moment}
+use Rattle.net_host.specs.Waiting.{state_moment}
 use Rattle.std.specs.Prelude.{if◌then◌else◌}
 
 -- the first due of a lease that the client keeps

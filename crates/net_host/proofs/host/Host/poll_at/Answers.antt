@@ -1,4 +1,4 @@
-use Rattle.std.proofs.Common.{◌≡◌, ◌∙◌, ap, ap₂}
+use Rattle.std.proofs.Common.{◌∙◌, ap₂}
 use Rattle.dns_client.specs.Slots.{earlier, least_due_behind}
 use Rattle.host_model.specs.Anchor.{anchor_before, place_of}
 use Rattle.host_model.specs.History.{times_since}
