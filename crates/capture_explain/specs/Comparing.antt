@@ -1,5 +1,5 @@
 -- What the two dissectors say of a frame.
-use Rattle.std.specs.Prelude.{◌≡◌, ℕ, ◌<◌, ◌≤◌, ◌↔◌, ◌⊎◌, IsTrue, true, List, length, None, option_map}
+use Rattle.std.specs.Prelude.{◌≡◌, ℕ, ◌<◌, ◌≤◌, ◌↔◌, ◌⊎◌, IsTrue, Bool, true, List, length, None, option_map}
 use Rattle.ether_link.specs.declared.layout.PartKind.TheVariants.{Ethernet2}
 use Rattle.ether_lax.specs.Agreement.{Agree, FindsPlaces}
 use Rattle.ether_lax.specs.Headers.{HoldsHeaders, headers_in}
@@ -12,14 +12,18 @@ use Rattle.capture_explain.specs.Dissected.{carried_by_frame}
 use Rattle.capture_explain.specs.Parts.{esp_by}
 use Rattle.capture_explain.specs.declared.dissecting.Compared.{Compared}
 
--- both dissections of a frame, and what was said of them
-pub record AreCompared (frame : List ℕ) (compared : Compared) : Type 0 where
-  pub packet : LaxSlicedPacket
+-- the headers of a frame as structs, and whether its packet in slices agrees with them
+pub record AgreesWithHeaders (frame : List ℕ) (packet : LaxSlicedPacket) (agree : Bool) : Type 0 where
   pub headers : LaxPacketHeaders
-  pub holds : HoldsLayout frame (begins_with Ethernet2) packet
   pub holds_headers : HoldsHeaders frame (begins_with Ethernet2) (carried_by_frame frame) headers
-  pub agree_is : IsTrue compared.agree ↔ Agree (sliced_in packet) (headers_in headers)
-  pub agrees : FindsPlaces frame (begins_with Ethernet2) → compared.agree ≡ true
+  pub agree_is : IsTrue agree ↔ Agree (sliced_in packet) (headers_in headers)
+  pub agrees : FindsPlaces frame (begins_with Ethernet2) → agree ≡ true
+
+-- the packet of a frame, and what was said of it; where no part is an extension header, the dissectors agree
+pub record AreCompared (frame : List ℕ) (plain : Bool) (compared : Compared) : Type 0 where
+  pub packet : LaxSlicedPacket
+  pub holds : HoldsLayout frame (begins_with Ethernet2) packet
+  pub agree_is : ((plain ≡ true) × (compared.agree ≡ true)) ⊎ AgreesWithHeaders frame packet compared.agree
   pub esp_is : compared.esp ≡ esp_by packet.stop_err (option_map net_in packet.net)
 
 -- both refuse a frame of fewer than 14 bytes
@@ -28,5 +32,5 @@ pub record AreRefused (frame : List ℕ) (compared : Compared) : Type 0 where
   pub agree_is : compared.agree ≡ true
   pub esp_is : compared.esp ≡ None
 
-abbrev pub IsCompared : List ℕ → Compared → Type 0
-IsCompared frame compared = AreRefused frame compared ⊎ ((14 ≤ length frame) × AreCompared frame compared)
+abbrev pub IsCompared : List ℕ → Bool → Compared → Type 0
+IsCompared frame plain compared = AreRefused frame compared ⊎ ((14 ≤ length frame) × AreCompared frame plain compared)

@@ -1,7 +1,10 @@
 //! The dissection of one frame.
 ghost use Rattle.std.specs.Prelude.{◌≡◌, ◌≤◌, length, IfOk, option_map};
+ghost use Rattle.ether_link.specs.declared.layout.PartKind.TheVariants.{Ethernet2};
+ghost use Rattle.ether_lax.specs.Sliced.{HoldsLayout};
+ghost use Rattle.ether_lax.specs.Steps.{begins_with};
 ghost use Rattle.ether_lax.specs.Nets.{net_in, payload_of_ip};
-ghost use Rattle.capture_explain.specs.Comparing.{IsCompared};
+ghost use Rattle.capture_explain.specs.Comparing.{AgreesWithHeaders, IsCompared};
 ghost use Rattle.capture_explain.specs.Dissected.{IsDissection};
 ghost use Rattle.capture_explain.specs.Parts.{esp_by, esp_in};
 
@@ -35,7 +38,7 @@ pub fn dissect(alloc: Global, frame: &[u8]) -> Result<Dissection, NoMemory>
     ensures value { IfOk result (IsDissection frame.now) }
 {
     let layers = layers_of(alloc, frame)?;
-    let compared = compare(frame);
+    let compared = compare(frame, layers.plain);
     Ok(Dissection {
         parts: layers.parts,
         stop: layers.stop,
@@ -52,23 +55,31 @@ struct Compared {
     esp: Option<EspPart>,
 }
 
-/// Whether the two dissectors agree on a frame, and the security payload that both of them find or miss.
-fn compare(frame: &[u8]) -> Compared
-    ensures { IsCompared frame.now result }
+/// Whether the two dissectors agree on a frame, and the security payload that both of them find or miss. A `plain`
+/// frame has no extension header of IP: then they do.
+fn compare(frame: &[u8], plain: bool) -> Compared
+    ensures { IsCompared frame.now plain result }
 {
-    let refused = Compared {
-        agree: true,
-        esp: None,
-    };
     let Ok(packet) = LaxSlicedPacket::from_ethernet(frame) else {
-        return refused;
-    };
-    let Ok(headers) = LaxPacketHeaders::from_ethernet(frame) else {
-        return refused;
+        return Compared {
+            agree: true,
+            esp: None,
+        };
     };
     Compared {
-        agree: agrees(&packet, &headers),
+        agree: plain || agrees_with_headers(frame, &packet),
         esp: esp_of(&packet),
+    }
+}
+
+/// Whether a packet agrees with the headers of its frame as structs.
+fn agrees_with_headers(frame: &[u8], packet: &LaxSlicedPacket<'_>) -> bool
+    requires { HoldsLayout frame.now (begins_with Ethernet2) packet.now }
+    ensures { 14 ≤ length frame.now → AgreesWithHeaders frame.now packet.now result }
+{
+    match LaxPacketHeaders::from_ethernet(frame) {
+        Ok(headers) => agrees(packet, &headers),
+        Err(_) => true,
     }
 }
 

@@ -1,6 +1,7 @@
 //! The parts of a frame, one inside the window of the other.
 ghost use Rattle.std.specs.Prelude.{◌≡◌, ◌≤◌, [], ◌∷◌, ◌++◌, length, IfOk, OnOk};
 ghost use Rattle.ether_link.specs.declared.layout.PartKind.TheVariants as layout;
+ghost use Rattle.ether_ip.specs.Held.{is_extension};
 ghost use Rattle.ether_lax.specs.Steps.{begins_with};
 ghost use Rattle.capture_explain.specs.Parts.{kind_of, part_with, ah_part, ah_in};
 ghost use Rattle.capture_explain.specs.Dissected.{HasLayers};
@@ -19,6 +20,8 @@ pub(crate) struct Layers {
     pub parts: PartList,
     pub ah: AhList,
     pub stop: Option<Layer>,
+    /// No part is an extension header of IP.
+    pub plain: bool,
 }
 
 /// The layers of a frame that begins with an Ethernet header.
@@ -28,14 +31,21 @@ pub(crate) fn layers_of(alloc: Global, frame: &[u8]) -> Result<Layers, NoMemory>
 {
     let (mut parts, mut ah) = (PartList::new(alloc), AhList::new(alloc));
     let (mut turn, mut start, mut end) = (ethernet(), 0, frame.len());
+    let mut plain = true;
     while let Some(now) = turn {
         match next_layer(frame, now, start, end) {
             Err(_) => {
                 let stop = Some(now.kind.layer());
-                return Ok(Layers { parts, ah, stop });
+                return Ok(Layers {
+                    parts,
+                    ah,
+                    stop,
+                    plain,
+                });
             }
             Ok(layer) => {
                 add_part(&mut parts, &mut ah, layer.place, &layer.part)?;
+                plain = plain && !is_extension(layer.place.kind);
                 turn = layer.next;
                 start = layer.place.body;
                 end = layer.place.end;
@@ -46,6 +56,7 @@ pub(crate) fn layers_of(alloc: Global, frame: &[u8]) -> Result<Layers, NoMemory>
         parts,
         ah,
         stop: None,
+        plain,
     })
 }
 
@@ -58,6 +69,22 @@ fn ethernet() -> Option<Turn>
         link_exts: 0,
         fragmented: false,
     })
+}
+
+/// Whether a part is an extension header of IP.
+fn is_extension(kind: LayoutKind) -> bool
+    ensures { result ≡ is_extension kind }
+{
+    matches!(
+        kind,
+        LayoutKind::HopByHop
+            | LayoutKind::LateHopByHop
+            | LayoutKind::Route
+            | LayoutKind::DestinationOptions
+            | LayoutKind::Fragment
+            | LayoutKind::Ipv4Auth
+            | LayoutKind::Ipv6Auth
+    )
 }
 
 /// Lists a part, and its values where it is an authentication header.

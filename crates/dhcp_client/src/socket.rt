@@ -241,6 +241,13 @@ impl<'a> Socket<'a> {
         }
     }
 
+    /// What it waits for, and when it sends next.
+    pub fn state(&self) -> ClientState
+        ensures { result ≡ self.now.state }
+    {
+        self.state
+    }
+
     /// The id of the message sent last; 1 before any.
     pub fn transaction_id(&self) -> u32
         ensures { result ≡ self.now.transaction_id }

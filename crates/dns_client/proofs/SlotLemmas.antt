@@ -1,9 +1,9 @@
 -- Slots one after another.
-use Rattle.std.proofs.Common.{◌≡◌, ◌≢◌, ℕ, zero, suc, ◌+◌, ◌<◌, ◌≤◌, [], ◌∷◌, ◌++◌, length, drop, get_or, set, Option, Some, None, refl, sym, ◌∙◌, ap, arith}
+use Rattle.std.proofs.Common.{◌≡◌, ◌≢◌, ℕ, zero, suc, ◌+◌, ◌<◌, ◌≤◌, [], ◌∷◌, ◌++◌, length, drop, get_or, set, ℤ, Option, Some, None, refl, sym, ◌∙◌, ap, arith}
 use Rattle.std.specs.Prelude.{slice_get}
 use Rattle.std.proofs.lemmas.List.{drop_more, drop_all}
 use Rattle.dns_client.specs.declared.query.DnsQuery.{DnsQuery}
-use Rattle.dns_client.specs.Slots.{Slots, first_free, with_new, least_due, earlier, due_of}
+use Rattle.dns_client.specs.Slots.{Slots, first_free, with_new, least_due, least_due_behind, behind, earlier, due_of}
 
 pub first_free_here : (slots : Slots) (at : ℕ) → at < length slots → get_or slots at None ≡ None
     → at + first_free (drop at slots) ≡ first_free slots → at ≡ first_free slots
@@ -33,6 +33,13 @@ pub least_due_more : (slots : Slots) (at : ℕ) (slot : Option DnsQuery) → at 
     → earlier (due_of slot) (least_due (drop (at + 1) slots)) ≡ least_due (drop at slots)
 least_due_more slots at slot inside is =
     ap (λ one. earlier (due_of one) (least_due (drop (at + 1) slots))) is ∙ sym (ap least_due (drop_more slots at None inside))
+
+pub least_due_behind_more : (last : Option ℤ) (slots : Slots) (at : ℕ) (slot : Option DnsQuery) → at < length slots
+    → slot ≡ get_or slots at None
+    → earlier (behind last (due_of slot)) (least_due_behind last (drop (at + 1) slots)) ≡ least_due_behind last (drop at slots)
+least_due_behind_more last slots at slot inside is =
+    ap (λ one. earlier (behind last (due_of one)) (least_due_behind last (drop (at + 1) slots))) is
+    ∙ sym (ap (least_due_behind last) (drop_more slots at None inside))
 
 new_there : (query : DnsQuery) (slots : Slots) → get_or (with_new query slots) (first_free slots) None ≡ Some query
 new_there query [] = refl

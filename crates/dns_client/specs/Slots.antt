@@ -60,6 +60,12 @@ earlier None other = other
 earlier (Some one) None = Some one
 earlier (Some one) (Some other) = Some (if int_lt other one then other else one)
 
+-- an instant, if it is behind the last one, where there was one
+abbrev pub behind : Option ℤ → Option ℤ → Option ℤ
+behind None at = at
+behind (Some last) None = None
+behind (Some last) (Some at) = if int_lt last at then Some at else None
+
 -- when a slot is due, if it waits
 abbrev pub due_in : QueryState → Option ℤ
 due_in (Pending pending) = Some pending.turn.retransmit_at
@@ -74,3 +80,8 @@ due_of (Some query) = due_in query.state
 abbrev pub least_due : Slots → Option ℤ
 least_due [] = None
 least_due (slot ∷ slots) = earlier (due_of slot) (least_due slots)
+
+-- and of those that are due behind an instant
+abbrev pub least_due_behind : Option ℤ → Slots → Option ℤ
+least_due_behind last [] = None
+least_due_behind last (slot ∷ slots) = earlier (behind last (due_of slot)) (least_due_behind last slots)

@@ -1,7 +1,7 @@
 //! Slots of queries, wherever they lie.
 ghost use Rattle.std.specs.Prelude.{◌≡◌, ◌<◌, ◌≤◌, length, IsTrue, IsSome, IfOk, IfErr, OnErr, ◌↔◌};
 ghost use Rattle.dns_client.specs.Slots.{first_free, with_new, slot_at, handle_at, without, Gives, least_due, due_of};
-ghost use Rattle.dns_client.specs.Slots.{earlier};
+ghost use Rattle.dns_client.specs.Slots.{behind, earlier, least_due_behind};
 
 use crate::query::{DnsQuery, QueryHandle, QueryState};
 use crate::{GetQueryResultError, StartQueryError};
@@ -151,6 +151,36 @@ pub(crate) fn least_due(slots: &[Option<DnsQuery>]) -> Option<Instant>
     while at > 0 {
         at -= 1;
         least = earlier(due_of(&slots[at]), least);
+    }
+    least
+}
+
+/// An instant, if it is behind the last one, where there was one.
+fn behind(last: &Option<Instant>, at: Option<Instant>) -> Option<Instant>
+    ensures { result ≡ behind last.now at }
+{
+    match last {
+        None => at,
+        Some(last) => match at {
+            None => None,
+            Some(due) => { if *last < due { at } else { None } }
+        },
+    }
+}
+
+/// The least due behind an instant of the queries that wait.
+#[tactic(auto, using(crate::proofs::SlotLemmas::least_due_behind_more))]
+pub(crate) fn least_due_behind(
+    last: &Option<Instant>,
+    slots: &[Option<DnsQuery>],
+) -> Option<Instant>
+    ensures { result ≡ least_due_behind last.now slots.now }
+{
+    let mut least = None;
+    let mut at = slots.len();
+    while at > 0 {
+        at -= 1;
+        least = earlier(behind(last, due_of(&slots[at])), least);
     }
     least
 }

@@ -7,7 +7,7 @@ ghost use Rattle.dns_client.specs.Looks.{look, walk, Dispatched};
 use crate::dispatch::dispatch;
 use crate::query::{DnsQuery, QueryHandle};
 use crate::response::{Arrived, DNS_PORT, MDNS_PORT, hear, is_response, is_same_address};
-use crate::slots::{free, handle_at, is_live, least_due, take_result};
+use crate::slots::{free, handle_at, is_live, least_due, least_due_behind, take_result};
 use crate::{DnsEmit, GetQueryResultError};
 use arrayvec::ArrayVec;
 use managed::ManagedSlice;
@@ -55,7 +55,7 @@ impl<'a> Socket<'a> {
     ghost use Rattle.std.specs.Prelude.{◌≢◌, Some, None, IsTrue, IsSome, ◌↔◌};
     ghost use Rattle.managed.specs.Storage.{items_of, item_storage};
     ghost use Rattle.dns_client.specs.Client.{client_of, hop_limit_of};
-    ghost use Rattle.dns_client.specs.Slots.{slot_at, handle_at, without, Gives, least_due};
+    ghost use Rattle.dns_client.specs.Slots.{slot_at, handle_at, without, Gives, least_due, least_due_behind};
 
     /// A client of the first three servers. Slots that hold queries keep them.
     pub fn new(servers: &[IpAddress], queries: ManagedSlice<'a, Option<DnsQuery>>) -> Socket<'a>
@@ -142,6 +142,14 @@ impl<'a> Socket<'a> {
         ensures value { result ≡ least_due (client_of self.now).slots }
     {
         least_due(self.queries.as_slice())
+    }
+
+    /// The least due behind an instant, the last one at which `dispatch` was called: a query that is due by
+    /// then, and whose message was refused, waits for something else than time.
+    pub fn poll_behind(&self, last: &Option<Instant>) -> Option<Instant>
+        ensures value { result ≡ least_due_behind last.now (client_of self.now).slots }
+    {
+        least_due_behind(last, self.queries.as_slice())
     }
 
     /// Whether a datagram may be a response: from port 53 of a server, or from the port of mDNS.

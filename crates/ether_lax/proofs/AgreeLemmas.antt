@@ -1,5 +1,5 @@
 -- What the two dissectors hold of one layout.
-use Rattle.std.proofs.Common.{◌≡◌, ℕ, List, length, Option, Some, None, refl, arith}
+use Rattle.std.proofs.Common.{◌≡◌, ℕ, true, List, length, Option, Some, None, refl, arith}
 use Rattle.ether_link.specs.Layout.{IsLayoutFrom}
 use Rattle.ether_link.specs.declared.layout.Place.{Place}
 use Rattle.ether_link.specs.declared.layout.Stop.{Stop}
@@ -16,6 +16,7 @@ use Rattle.ether_lax.specs.Found.{no_parts, parts_of}
 use Rattle.ether_lax.specs.Headers.{HeaderParts, HoldsHeaders, headers_in, headers_of, net_headers, carried_of, lacks_bytes}
 use Rattle.ether_lax.specs.Payloads.{Carried}
 use Rattle.ether_lax.specs.Sliced.{SlicedParts, HoldsLayout, sliced_in, sliced_of, net_by, chain_at}
+use Rattle.ether_lax.specs.Walks.{kept_places, kept_stop}
 use Rattle.ether_lax.specs.declared.found.FoundIp.{FoundIp}
 use Rattle.ether_lax.specs.declared.found.IpHeader.{IpHeader}
 use Rattle.ether_lax.specs.declared.found.IpHeader.TheVariants.{V4, V6}
@@ -82,3 +83,13 @@ agreed frame first start packet headers holds holds_headers finds =
     let all = free_all frame holds.places no_extensions holds.stop free in
     let headers_are = rw (same.0, same.1) at (holds_headers.holds) in
     agree_by frame first start holds.places holds.stop holds.layout free (sliced_in packet) (headers_in headers) _ _ holds.holds headers_are all.0 all.1
+
+-- and so do the parts and the headers of a layout, without either packet
+pub agree_at : (frame : List ℕ) (first : Option Turn) (start : Carried) (places : List Place) (stop : Option (Stop SliceError))
+    → IsLayoutFrom packet_grammar frame first 0 (length frame) places stop → AreFree frame no_extensions places stop
+    → Agree (sliced_of frame (parts_of frame places) stop)
+    (headers_of frame start (parts_of frame (kept_places true frame places)) (kept_stop true frame places stop))
+agree_at frame first start places stop right free =
+    let all = free_all frame places no_extensions stop free in
+    (agree_by frame first start places stop right free _ _ (kept_places true frame places) (kept_stop true frame places stop) refl refl
+    all.0 all.1).0

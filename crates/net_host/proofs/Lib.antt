@@ -22,6 +22,7 @@ pub mod LinkLemmas
 pub mod ListingLemmas
 pub mod LossLemmas
 pub mod MarkedLemmas
+pub mod MomentLemmas
 pub mod NeighborLemmas
 pub mod OfferLemmas
 pub mod OverLemmas

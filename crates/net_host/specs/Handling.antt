@@ -11,7 +11,6 @@ use Rattle.host_model.specs.Lease.{leased_under}
 use Rattle.host_model.specs.Queries.{lines_at}
 use Rattle.net_host.specs.declared.host.Handled.{Handled}
 use Rattle.net_host.specs.declared.host.Host.{Host}
-use Rattle.net_host.specs.declared.report.Row.{Row}
 use Rattle.script_reader.specs.declared.script.ScriptEvent.{ScriptEvent}
 use Rattle.net_host.specs.Agreement.{AgreesWithHistory}
 use Rattle.net_host.specs.Config.{CanRun}
@@ -21,7 +20,6 @@ use Rattle.net_host.specs.Neighbors.{HasRoom}
 use Rattle.net_host.specs.Polling.{IsReady}
 use Rattle.net_host.specs.QueryPolling.{AreLent}
 use Rattle.net_host.specs.QueryReady.{HoldsQueries}
-use Rattle.net_host.specs.Rows.{IsRowOf}
 
 -- A history that the host agrees with before the event: it agrees with that and the event's entry after it,
 -- whose frames were sent, and gives the address that is leased then.
@@ -50,15 +48,3 @@ pub record CanHandle (host : Host) : Type 0 where
 abbrev pub HandlesEvent : ℤ → ScriptEvent → EventWords → Host → Host → Handled → Type 0
 HandlesEvent at event words old new handled = (settings : Settings) (before : List Entry) → CanRun settings
     → AgreesWithHistory settings before old → Answers settings before at event words new handled
-
--- The row is that of the event's entry behind whatever history the host agrees with,
-abbrev pub GivesRow : ℤ → ScriptEvent → EventWords → Host → Row → Type 0
-GivesRow at event words old row = (settings : Settings) (before : List Entry) → CanRun settings
-    → AgreesWithHistory settings before old
-    → IsRowOf settings before (entry_of settings before (event_at at event) words) row
-
--- and then it agrees with that entry too.
-abbrev pub Meets : ℤ → ScriptEvent → EventWords → Host → Host → Type 0
-Meets at event words old new = (settings : Settings) (before : List Entry) → CanRun settings
-    → AgreesWithHistory settings before old
-    → AgreesWithHistory settings (entry_of settings before (event_at at event) words ∷ before) new

@@ -12,6 +12,7 @@ pub mod HostConfig
 pub mod Lines
 pub mod Listed
 pub mod ListedCut
+pub mod Moments
 pub mod NeighborPlaces
 pub mod Neighbors
 pub mod Outside
@@ -27,5 +28,7 @@ pub mod Report
 pub mod Rows
 pub mod Run
 pub mod RunError
+pub mod Stepping
 pub mod Taking
 pub mod Told
+pub mod Waiting

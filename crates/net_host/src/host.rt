@@ -26,6 +26,7 @@ ghost use Rattle.phy_layers.specs.PcapBytes.{epoch_micros, IsCapturable};
 
 use crate::arrived::{kind_of, note_for};
 use crate::emitter::Emitter;
+use crate::moments::{earlier, state_moment};
 use crate::neighbors::Neighbors;
 use crate::queries::{end_queries, hear_response, poll_dns, serve, start};
 use crate::{HostConfig, LineList, Row, ScriptEvent, SentList};
@@ -50,6 +51,8 @@ pub struct Host<'a, 'm> {
     pub(crate) dns: dns_client::Socket<'m>,
     /// How many query events there were.
     pub(crate) queries: u32,
+    /// When the last event came; `None` before any.
+    pub(crate) last: Option<Instant>,
     pub(crate) out: Emitter<'m>,
 }
 
@@ -60,6 +63,7 @@ impl<'a, 'm> Drop for Host<'a, 'm> {
             dhcp,
             dns,
             queries: _,
+            last: _,
             out,
         } = self;
         let _ = dhcp;
@@ -86,8 +90,10 @@ impl<'a, 'm> Host<'a, 'm> {
     ghost use Rattle.host_model.specs.Anchor.{anchor_before};
     ghost use Rattle.host_model.specs.Lease.{leased_under};
     ghost use Rattle.host_model.specs.Queries.{counted};
-    ghost use Rattle.net_host.specs.Handling.{CanMeet, GivesRow, HandlesEvent, Meets};
+    ghost use Rattle.net_host.specs.Handling.{CanMeet, HandlesEvent};
+    ghost use Rattle.net_host.specs.Stepping.{GivesRow, Meets};
     ghost use Rattle.net_host.specs.Holding.{host_lease};
+    ghost use Rattle.net_host.specs.Moments.{next_moment};
     ghost use Rattle.net_host.specs.Report.{AreCapturable};
     ghost use Rattle.net_host.specs.Neighbors.{HasRoom, pair_count, place_count};
     ghost use Rattle.std.specs.Prelude.{[], ◌+◌, ◌≤◌, length};
@@ -113,6 +119,7 @@ impl<'a, 'm> Host<'a, 'm> {
             dhcp: Socket::with_config(config.client()),
             dns: dns_client::Socket::new(&[], ManagedSlice::Borrowed(slots)),
             queries: 0,
+            last: None,
             out: Emitter {
                 alloc,
                 hardware: config.hardware(),
@@ -144,6 +151,19 @@ impl<'a, 'm> Host<'a, 'm> {
             Some(held) => Some(held.address),
             None => None,
         }
+    }
+
+    /// The earliest instant behind the last event's at which time alone brings something about: a message of the DHCP client or
+    /// of a query is due, a lease ends, or at T2 a renewal that waits for its hop goes to all servers. What was due by the last
+    /// event, and did not find its hop, waits for any event. `None` where there is no such instant.
+    pub fn poll_at(&self) -> Option<Instant>
+        ensures { (settings : Settings) (before : List Entry) → AgreesWithHistory settings before self.now
+            → result ≡ next_moment settings before }
+    {
+        let state = self.dhcp.state();
+        let lease = state_moment(&self.last, &state);
+        let queries = self.dns.poll_behind(&self.last);
+        earlier(lease, queries)
     }
 
     /// Takes in an event, and gives its row: what arrived, the address that is leased then, the frames that are sent and what became
@@ -221,6 +241,7 @@ impl<'a, 'm> Host<'a, 'm> {
         }
         hold(&mut self.dhcp, &mut self.out.held, &mut self.dns);
         let lease = self.lease();
+        self.last = Some(at);
         let sent = self.out.take_sent();
         Ok(Handled { lease, sent, lines })
     }

@@ -7,6 +7,7 @@ mod emitter;
 mod hops;
 pub mod host;
 pub mod laws;
+mod moments;
 mod neighbors;
 mod queries;
 pub mod report;

@@ -1,5 +1,5 @@
 //! A whole run: a script in, a capture and a report out.
-ghost use Rattle.std.specs.Prelude.{◌≡◌, ℕ, ◌+◌, ◌*◌, ◌<◌, ◌≤◌, ◌⊎◌, ℤ, List, [], length, None, replicate, IfErr, IfOk, IfSome, IfNone, OnOk};
+ghost use Rattle.std.specs.Prelude.{◌≡◌, ℕ, ◌+◌, ◌*◌, ◌<◌, ◌≤◌, ◌⊎◌, ℤ, List, [], length, None, IfErr, IfOk, IfSome, IfNone, OnOk};
 ghost use Rattle.std.specs.Result.{IsErrOf};
 ghost use Rattle.wire_base.specs.Causes.{IsRisen};
 ghost use Rattle.phy_layers.specs.Sink.{Took};

@@ -54,8 +54,8 @@ abbrev pub BeginsNoNext : ℕ → List ℕ → Type 0
 BeginsNoNext last bytes = (entry : CaptureEntry) (rest : List ℕ) → IsNextEntry last entry
     → bytes ≡ entry_bytes entry ++ rest → ⊥
 
--- The bytes are a header and fewer than `max` entries, of together `offset` bytes, and then at least one byte; no
--- entry that may come next stands there.
+-- The bytes are a header and fewer than `max` entries, of together `offset` bytes, and then at least one
+-- byte; no entry that may come next stands there.
 pub record IsBrokenAt (max : ℕ) (bytes : List ℕ) (offset : ℕ) : Type 0 where
   pub entries : List CaptureEntry
   pub front : List ℕ

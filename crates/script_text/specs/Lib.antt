@@ -1,7 +1,13 @@
 pub mod CapturedFrames
+pub mod Commands
 pub mod EventText
 pub mod FramesError
+pub mod Lines
+pub mod Meaning
 pub mod Outside
 pub mod ShowError
 pub mod Shown
 pub mod ShownFrames
+pub mod TextExamples
+pub mod TextLaws
+pub mod Words

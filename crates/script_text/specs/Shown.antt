@@ -13,8 +13,8 @@ use Rattle.script_text.specs.Outside.{Outside, IsQuiet}
 use Rattle.script_text.specs.declared.showing.ShowError.{ShowError}
 use Rattle.script_text.specs.declared.showing.ShowError.TheVariants.{Script, Limit, Read, Sink, NoMemory}
 
--- A script was shown to its end. Where the source told its bytes, they were a script of these events, and the text of
--- all of them was written.
+-- A script was shown to its end. Where the source told its bytes, they were a script of these events, and the
+-- text of all of them was written.
 pub record Shown (max : ℕ) (before after : Outside) : Type 0 where
   pub events : List Event
   pub script : IfSome before.left (λ bytes. IsScript max bytes events)
@@ -39,8 +39,8 @@ pub record Stopped (max : ℕ) (before after : Outside) (Ends : Taken max before
   pub ends : Ends taken
   pub written : Appends before.written after.written (events_text taken.events)
 
--- It stopped inside a line, or in front of the first one: whole events were taken and nothing behind them, and a front
--- of their text was written.
+-- It stopped inside a line, or in front of the first one: whole events were taken and nothing behind them,
+-- and a front of their text was written.
 pub record Interrupted (max : ℕ) (before after : Outside) : Type 0 where
   pub taken : Taken max before after
   pub whole : taken.part ≡ []
@@ -61,8 +61,8 @@ Leaves max before after Read = Stopped max before after
 Leaves max before after Sink = Interrupted max before after
 Leaves max before after NoMemory = Interrupted max before after
 
--- Why it did not end well, by its answer: the bytes of the script, or a count of faults that rose; want of memory is
--- free. No other count of faults changed.
+-- Why it did not end well, by its answer: the bytes of the script, or a count of faults that rose; want of
+-- memory is free. No other count of faults changed.
 abbrev pub HasCause : ℕ → Outside → Outside → ShowError → Type 0
 HasCause max before after (Script offset) =
     IfSome before.left (λ bytes. IsBrokenAt max bytes offset) × IsQuiet before after

@@ -12,8 +12,8 @@ use Rattle.script_text.specs.Outside.{Outside, IsQuiet}
 use Rattle.script_text.specs.declared.captured.FramesError.{FramesError}
 use Rattle.script_text.specs.declared.captured.FramesError.TheVariants.{Header, Entry, Limit, Read, Sink, NoMemory}
 
--- A capture was shown to its end. Where the source told its bytes, they were a file of these entries, and the text of
--- all of them was written.
+-- A capture was shown to its end. Where the source told its bytes, they were a file of these entries, and the
+-- text of all of them was written.
 pub record Shown (max : ℕ) (before after : Outside) : Type 0 where
   pub entries : List CaptureEntry
   pub file : IfSome before.left (λ bytes. IsFile max bytes entries)
@@ -21,7 +21,8 @@ pub record Shown (max : ℕ) (before after : Outside) : Type 0 where
   pub ended : IsAtEnd after.left
   pub written : Appends before.written after.written (entries_text entries)
 
--- what was taken from the source: a header and entries, whole and in order, of together `front`, and a part behind them
+-- what was taken from the source: a header and entries, whole and in order, of together `front`, and a part
+-- behind them
 pub record Taken (max : ℕ) (before after : Outside) : Type 0 where
   pub entries : List CaptureEntry
   pub front : List ℕ
@@ -36,7 +37,8 @@ pub record Stopped (max : ℕ) (before after : Outside) (Ends : Taken max before
   pub ends : Ends taken
   pub written : Appends before.written after.written (entries_text taken.entries)
 
--- it stopped inside a line: whole entries were taken and nothing behind them, and a front of their text was written
+-- it stopped inside a line: whole entries were taken and nothing behind them, and a front of their text was
+-- written
 pub record Interrupted (max : ℕ) (before after : Outside) : Type 0 where
   pub taken : Taken max before after
   pub whole : taken.part ≡ []
@@ -70,12 +72,13 @@ Leaves max before after Limit = Stopped max before after
     (λ taken. (length taken.entries ≡ max) × EndsEntry explain.Limit after.left taken.part)
 Leaves max before after Read = LacksHeader explain.Read before after
     ⊎ Stopped max before after
-    (λ taken. (0 < length taken.part → length taken.entries < max) × EndsEntry explain.Read after.left taken.part)
+    (λ taken. (0 < length taken.part → length taken.entries < max)
+    × EndsEntry explain.Read after.left taken.part)
 Leaves max before after Sink = Interrupted max before after
 Leaves max before after NoMemory = IsUntouched before after ⊎ Interrupted max before after
 
--- Why it did not end well, by its answer: the bytes of the file, or a count of faults that rose; want of memory is
--- free. No other count of faults changed.
+-- Why it did not end well, by its answer: the bytes of the file, or a count of faults that rose; want of
+-- memory is free. No other count of faults changed.
 abbrev pub HasCause : ℕ → Outside → Outside → FramesError → Type 0
 HasCause max before after Header = IfSome before.left HasNoHeader × IsQuiet before after
 HasCause max before after (Entry offset) =

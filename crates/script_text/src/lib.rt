@@ -2,8 +2,11 @@
 #![tactic(auto)]
 
 mod captured;
+pub mod examples;
+pub mod laws;
 mod line;
 mod showing;
+pub mod words;
 
 pub use captured::{FramesError, frames};
 pub use line::event_text;

@@ -81,7 +81,8 @@ fn put_hex_word<O: ByteSink>(out: &mut O, answer: &mut Result<(), SinkError>, by
 }
 
 fn put_hex_bytes<O: ByteSink>(out: &mut O, answer: &mut Result<(), SinkError>, bytes: &[u8])
-    ensures { Puts O.bytes O.faults O.grows answer.old answer.new (flat_map hex_byte bytes.now) out.old out.new }
+    ensures { Puts O.bytes O.faults O.grows answer.old answer.new (flat_map hex_byte bytes.now)
+        out.old out.new }
 {
     for byte in bytes {
         put_hex_byte(out, answer, *byte);
@@ -108,7 +109,8 @@ fn put_name<O: ByteSink>(out: &mut O, answer: &mut Result<(), SinkError>, name: 
 }
 
 fn put_name_bytes<O: ByteSink>(out: &mut O, answer: &mut Result<(), SinkError>, bytes: &[u8])
-    ensures { Puts O.bytes O.faults O.grows answer.old answer.new (flat_map name_byte bytes.now) out.old out.new }
+    ensures { Puts O.bytes O.faults O.grows answer.old answer.new (flat_map name_byte bytes.now)
+        out.old out.new }
 {
     for byte in bytes {
         put_name_byte(out, answer, *byte);

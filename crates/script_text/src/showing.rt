@@ -81,7 +81,8 @@ pub fn show<S: ScriptSource, O: ByteSink>(
     // It stopped: what it took and wrote, and why.
     ensures leaves { IfErr result (Leaves max_events (outside_of S.ScriptSource O.ByteSink source.old out.old)
         (outside_of S.ScriptSource O.ByteSink source.new out.new)) }
-    ensures cause { IfErr result (HasCause max_events (outside_of S.ScriptSource O.ByteSink source.old out.old)
+    ensures cause { IfErr result (HasCause max_events
+        (outside_of S.ScriptSource O.ByteSink source.old out.old)
         (outside_of S.ScriptSource O.ByteSink source.new out.new)) }
     ensures later { (S.faults source.old ≤ S.faults source.new) × (O.faults out.old ≤ O.faults out.new) }
     // It stops without a cause only where memory runs out.

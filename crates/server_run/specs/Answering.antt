@@ -31,7 +31,7 @@ calls_with values calls at (ByDhcp request) = call_for values calls at request �
 calls_with values calls at (ByArp arp) = calls
 calls_with values calls at Nothing = calls
 
--- a message of the server: from its port, 67, to the port of clients, 68, of all hosts (RFC 2131, section 4.1)
+-- a message of the server: from its port, 67, to that of clients, 68, of all hosts (RFC 2131, section 4.1)
 abbrev pub reply_datagram : Values → Message → Datagram
 reply_datagram values message = record {
   source = values.address;
@@ -47,10 +47,11 @@ IsFrameOf values None sent = sent ≡ None
 IsFrameOf values (Some message) sent = (frame : List ℕ) × (sent ≡ Some frame)
     × IsSentFrame values.hardware ethernet_broadcast 64 (reply_datagram values message) frame
 
--- what is sent: the message of the reply, or the ARP reply with the server's addresses to the station that asked
+-- what is sent: the message of the reply, or the ARP reply with the server's addresses to who asked
 abbrev pub IsSentAt : Values → List Call → ℕ → Asked → Option (List ℕ) → Type 0
 IsSentAt values calls at (ByDhcp request) sent =
     IsFrameOf values (reply_message values request (reply_at values calls at request)) sent
 IsSentAt values calls at (ByArp arp) sent = sent
-    ≡ Some (arp_frame_bytes values.hardware arp.source_hardware_addr (reply_to values.hardware (own_address values) arp))
+    ≡ Some (arp_frame_bytes values.hardware arp.source_hardware_addr
+    (reply_to values.hardware (own_address values) arp))
 IsSentAt values calls at Nothing sent = sent ≡ None

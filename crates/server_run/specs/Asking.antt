@@ -1,5 +1,5 @@
--- What an event asks of a server: a message of a DHCP client (RFC 2131, section 4.1), or an ARP request for the
--- server's address (RFC 826).
+-- What an event asks of a server: a message of a DHCP client (RFC 2131, section 4.1), or an ARP request for
+-- the server's address (RFC 826).
 use Rattle.std.specs.Prelude.{ℕ, ◌&&◌, ◌==◌, List, Option, Some, None, if◌then◌else◌}
 use Rattle.net_wire.specs.declared.address.EthernetAddress.{EthernetAddress}
 use Rattle.net_wire.specs.declared.arp.ArpRepr.{ArpRepr}
@@ -23,7 +23,8 @@ pub data Asked : Type 0 where
 abbrev pub request_of : Option Datagram → Option Message
 request_of None = None
 request_of (Some datagram) =
-    if (datagram.source_port == 68) && (datagram.destination_port == 67) then message_at datagram.payload else None
+    if (datagram.source_port == 68) && (datagram.destination_port == 67) then message_at datagram.payload
+    else None
 
 -- and in a frame to a station, also from a client that has no address yet
 abbrev pub request_in : EthernetAddress → List ℕ → Option Message

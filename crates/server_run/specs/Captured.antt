@@ -1,5 +1,5 @@
--- The capture of a run: libpcap's file format over Ethernet (draft-ietf-opsawg-pcap), for each row the frame that
--- arrived, and then the one that was sent.
+-- The capture of a run: libpcap's file format over Ethernet (draft-ietf-opsawg-pcap), for each row the frame
+-- that arrived, and then the one that was sent.
 use Rattle.std.specs.Prelude.{ℕ, ◌<◌, ◌^◌, List, [], ◌++◌, length, Option, Some, None, IfSome}
 use Rattle.std.specs.List.{flat_map}
 use Rattle.phy_layers.specs.PcapBytes.{epoch_micros, global_header, packet_record}
@@ -11,7 +11,8 @@ frame_record at None = []
 frame_record at (Some frame) = packet_record at frame
 
 abbrev pub row_records : ServeRow → List ℕ
-row_records row = frame_record (epoch_micros row.at) row.arrived ++ frame_record (epoch_micros row.at) row.sent
+row_records row =
+    frame_record (epoch_micros row.at) row.arrived ++ frame_record (epoch_micros row.at) row.sent
 
 -- the whole capture: link type 1 is Ethernet
 abbrev pub serve_capture : List ServeRow → List ℕ

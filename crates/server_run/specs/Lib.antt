@@ -1,6 +1,7 @@
 pub mod Answering
 pub mod Asking
 pub mod Captured
+pub mod Examples
 pub mod Rows
 pub mod ServeError
 pub mod Served

@@ -16,13 +16,15 @@ use Rattle.server_run.specs.Captured.{serve_capture}
 use Rattle.server_run.specs.Rows.{AreRows, frame_of, new_row}
 
 -- the events have their rows, and the capture grew by its header and the frames of the rows
-pub record AreServed (values : Values) (before after : Outside) (report : List ServeRow) (events : List Event) : Type 0 where
+pub record AreServed (values : Values) (before after : Outside) (report : List ServeRow)
+    (events : List Event) : Type 0 where
   pub rows : AreRows values events report
   pub captured : Appends before.captured after.captured (serve_capture report)
 
 -- A run that ended well. The source was read to its end; where it told its bytes, they were a script of these
 -- events, and all of them are served.
-pub record Finished (values : Values) (max : ℕ) (before after : Outside) (report : List ServeRow) : Type 0 where
+pub record Finished (values : Values) (max : ℕ) (before after : Outside) (report : List ServeRow)
+    : Type 0 where
   pub events : List Event
   pub script : IfSome before.left (λ bytes. IsScript max bytes events)
   pub in_order : AreInOrder 0 events

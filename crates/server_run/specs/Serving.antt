@@ -39,14 +39,16 @@ abbrev pub standing : ServerState → Option (List ℕ) → List ServeRow → St
 standing server captured report = record { server = server; captured = captured; report = report }
 
 -- the report has one row more: that of the event
-pub record PlacesRow (values : Values) (calls : List Call) (at : ℤ) (event : ScriptEvent) (old new : Standing) : Type 0 where
+pub record PlacesRow (values : Values) (calls : List Call) (at : ℤ) (event : ScriptEvent)
+    (old new : Standing) : Type 0 where
   pub row : ServeRow
   pub placed : new.report ≡ old.report ++ row ∷ []
   pub row_of : IsRowOf values calls (event_at at event) row
   pub agrees : Agrees values (calls_behind values calls (event_at at event)) new.server
 
 -- and the capture grew by the records of the row
-pub record TakesEvent (values : Values) (calls : List Call) (at : ℤ) (event : ScriptEvent) (old new : Standing) : Type 0 where
+pub record TakesEvent (values : Values) (calls : List Call) (at : ℤ) (event : ScriptEvent)
+    (old new : Standing) : Type 0 where
   pub places : PlacesRow values calls at event old new
   pub captured : Appends old.captured new.captured (row_records places.row)
 
@@ -55,20 +57,23 @@ pub record LeavesNoRow (old new : Standing) : Type 0 where
   pub same : new.report ≡ old.report
   pub kept : Keeps old.captured new.captured
 
--- The row is placed, and nothing was answered yet. The capture grew by a front of the record of the frame that
--- arrived, if one did.
+-- The row is placed, and nothing was answered yet. The capture grew by a front of the record of the frame
+-- that arrived, if one did.
 pub record LeavesNewRow (at : ℤ) (event : ScriptEvent) (old new : Standing) : Type 0 where
   pub placed : new.report ≡ old.report ++ new_row at (frame_of (arrival_of event)) ∷ []
-  pub captured : AppendsFront old.captured new.captured (frame_record (epoch_micros at) (frame_of (arrival_of event)))
+  pub captured : AppendsFront old.captured new.captured
+      (frame_record (epoch_micros at) (frame_of (arrival_of event)))
 
 -- the row is that of the event, and the capture grew by a front of its records
-pub record LeavesFront (values : Values) (calls : List Call) (at : ℤ) (event : ScriptEvent) (old new : Standing) : Type 0 where
+pub record LeavesFront (values : Values) (calls : List Call) (at : ℤ) (event : ScriptEvent)
+    (old new : Standing) : Type 0 where
   pub places : PlacesRow values calls at event old new
   pub captured : AppendsFront old.captured new.captured (row_records places.row)
 
 -- what an event leaves that was not taken in to its end, once its row is placed
 abbrev pub LeavesRow : Values → List Call → ℤ → ScriptEvent → Standing → Standing → Type 0
-LeavesRow values calls at event old new = LeavesNewRow at event old new ⊎ LeavesFront values calls at event old new
+LeavesRow values calls at event old new =
+    LeavesNewRow at event old new ⊎ LeavesFront values calls at event old new
 
 -- and before
 abbrev pub LeavesEvent : Values → List Call → ℤ → ScriptEvent → Standing → Standing → Type 0

@@ -47,8 +47,9 @@ fn answer_request(
 ) -> Result<Given, NoMemory>
     requires time { IsCapturable at }
     requires later { server.old.last ≤ epoch_micros at }
-    ensures value { (calls : List Call) → Agrees (values_of values.now) calls server.old → IfOk result (λ given.
-        AnswersAsked (values_of values.now) calls (epoch_micros at) (ByDhcp (message_of request.now)) given server.new) }
+    ensures value { (calls : List Call) → Agrees (values_of values.now) calls server.old
+        → IfOk result (λ given. AnswersAsked (values_of values.now) calls (epoch_micros at)
+        (ByDhcp (message_of request.now)) given server.new) }
     ensures last { server.new.last ≤ epoch_micros at }
     ensures within { IfOk result (λ given. IsCapturableFrame given.sent) }
 {
@@ -71,9 +72,9 @@ fn answer_frame(
 ) -> Result<Given, NoMemory>
     requires time { IsCapturable at }
     requires later { server.old.last ≤ epoch_micros at }
-    ensures value { (calls : List Call) → Agrees (values_of values.now) calls server.old → IfOk result (λ given.
-        AnswersAsked (values_of values.now) calls (epoch_micros at) (asked_in (values_of values.now) frame.now)
-        given server.new) }
+    ensures value { (calls : List Call) → Agrees (values_of values.now) calls server.old
+        → IfOk result (λ given. AnswersAsked (values_of values.now) calls (epoch_micros at)
+        (asked_in (values_of values.now) frame.now) given server.new) }
     ensures last { server.new.last ≤ epoch_micros at }
     ensures within { IfOk result (λ given. IsCapturableFrame given.sent) }
 {
@@ -102,8 +103,8 @@ pub(crate) fn answer_event(
 ) -> Result<Given, NoMemory>
     requires time { IsCapturable at }
     requires later { server.old.last ≤ epoch_micros at }
-    ensures value { (calls : List Call) → Agrees (values_of values.now) calls server.old → IfOk result (λ given.
-        AnswersAsked (values_of values.now) calls (epoch_micros at)
+    ensures value { (calls : List Call) → Agrees (values_of values.now) calls server.old
+        → IfOk result (λ given. AnswersAsked (values_of values.now) calls (epoch_micros at)
         (asked_at (values_of values.now) (arrival_of event.entry)) given server.new) }
     ensures last { server.new.last ≤ epoch_micros at }
     ensures within { IfOk result (λ given. IsCapturableFrame given.sent) }

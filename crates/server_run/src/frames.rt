@@ -126,7 +126,8 @@ pub(crate) fn reply_frame(
     message: Option<DhcpRepr<'_>>,
 ) -> Result<Option<FrameBytes>, NoMemory>
     requires { IfSome message (λ m. IsPlain (message_of m)) }
-    ensures value { IfOk result (λ sent. IsFrameOf (values_of values.now) (option_map message_of message.entry) sent) }
+    ensures value { IfOk result (λ sent.
+        IsFrameOf (values_of values.now) (option_map message_of message.entry) sent) }
     ensures within { IfOk result (λ sent. IsCapturableFrame sent) }
 {
     match message {
@@ -144,7 +145,8 @@ pub(crate) fn arp_reply(
     values: &ServerValues,
     asked: &ArpRepr,
 ) -> Result<FrameBytes, NoMemory>
-    ensures value { IfOk result (λ frame. frame ≡ arp_frame_bytes values.now.hardware asked.now.source_hardware_addr
+    ensures value { IfOk result (λ frame. frame
+        ≡ arp_frame_bytes values.now.hardware asked.now.source_hardware_addr
         (reply_to values.now.hardware (own_address (values_of values.now)) asked.now)) }
     ensures within { IfOk result (λ frame. length frame < 2 ^ 32) }
 {

@@ -1,8 +1,10 @@
-//! A DHCP server that serves a script of events: it reads them, answers each, reports it and captures the frames.
+//! A DHCP server that serves a script of events: it answers each as it is read, reports it and captures the
+//! frames.
 #![tactic(auto)]
 
 mod answering;
 mod asking;
+pub mod examples;
 mod frames;
 pub mod report;
 pub mod serve_error;

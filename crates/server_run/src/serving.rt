@@ -112,8 +112,8 @@ fn take_event<C: PcapSink>(
     Ok(())
 }
 
-/// Serves a script with a server of these values: answers each event as it is read, reports it and captures the
-/// frames.
+/// Serves a script with a server of these values: answers each event as it is read, reports it and captures
+/// the frames.
 pub fn serve<S: ScriptSource, C: PcapSink>(
     alloc: Global,
     source: &mut S,

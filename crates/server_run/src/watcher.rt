@@ -13,7 +13,8 @@ pub trait ServeWatcher {
 
     /// Is told of one row more.
     fn see(&mut self, row: &ServeRow)
-        ensures { (first : Self) (rows : List ServeRow) → sees first rows self.old → sees first (rows ++ row.now ∷ []) self.new };
+        ensures { (first : Self) (rows : List ServeRow) → sees first rows self.old
+            → sees first (rows ++ row.now ∷ []) self.new };
 
     /// Nothing was seen at first.
     ghost starts: { (watcher : Self) → sees watcher [] watcher };

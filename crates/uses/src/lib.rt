@@ -18,4 +18,7 @@ pub mod queries;
 pub mod rules;
 pub mod runs;
 pub mod scripts;
+pub mod serving;
+pub mod steps;
 pub mod sums;
+pub mod texts;

@@ -1,5 +1,5 @@
 -- The event is answered, for each history that the host agrees with.
-use Rattle.std.proofs.Common.{◌≡◌, ◌+◌, ◌≤◌, List, ◌∷◌, map, None, sym, subst, ap, ◌∙◌, refl}
+use Rattle.std.proofs.Common.{◌≡◌, ◌+◌, ◌≤◌, List, ◌∷◌, map, None, Some, sym, subst, ap, ◌∙◌, refl}
 use Rattle.std.specs.Option.{option_map}
 use Rattle.net_wire.specs.declared.error.Context.{Context}
 use Rattle.dns_client.specs.Client.{client_of}
@@ -79,6 +79,7 @@ returns-clause-value c = λ settings before can agrees.
       agrees = record {
         hardware = ap (λ (e : Emitter). e.hardware) c.take_sent-sent.ensures.rest ∙ done.hardware;
         ip_mtu = c.hear.ensures.mtu ∙ agrees.ip_mtu;
+        last = ap (λ at. Some at) at_is;
         held = ap (λ (e : Emitter). e.held) c.take_sent-sent.ensures.rest ∙ done.holds_is;
         neighbors = rw c.take_sent-sent.ensures.rest done.neighbors;
         dhcp = rw (c.take_sent-sent.ensures.rest, c.hold.ensures.told) done.dhcp_is;

@@ -1,3 +1,4 @@
+use Rattle.net_host.specs.Stepping.{entries_with}
 use Rattle.net_host.proofs.PlacingLemmas.{row_is}
 use Rattle.net_host.proofs.PollingLemmas.{instant_is}
 use Rattle.net_host.proofs.host.Host.handle.Goals as goal
@@ -9,4 +10,5 @@ returns-clause-row c = λ settings before can agrees.
     c.in_ok-handled.ensures.value can agrees
 
 pub returns-clause-agrees : goal.returns-clause-agrees
+unfolding entries_with
 returns-clause-agrees c = λ settings before can agrees. (c.in_ok-handled.ensures.value settings before can agrees).agrees

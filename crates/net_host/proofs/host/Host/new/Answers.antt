@@ -21,6 +21,7 @@ returns-clause-agrees c =
     record {
       hardware = c.hardware.ensures.value;
       ip_mtu = c.ip_mtu.ensures;
+      last = refl;
       held = refl;
       neighbors = none_agrees c.args.config.now c.new-neighbors.result (ap (λ (t : Table). t.stations) c.new-neighbors.ensures);
       dhcp = subst (λ (servers : List IpAddress).

@@ -1,0 +1,7 @@
+-- The bytes so far pass.
+use Rattle.std.proofs.Common.{◌≡◌, ℕ, ◌<◌, true, get_or}
+use Rattle.script_text.specs.Lines.{is_blank}
+use Rattle.script_text.proofs.words.blank_len.Given as goal
+
+abbrev pub invariant-loop-at : goal.invariant-loop-at
+invariant-loop-at l = (k : ℕ) → k < l.at → is_blank (get_or l.line k 0) ≡ true
