@@ -11,3 +11,12 @@ invariant-loop-rest l = record {
 
 abbrev pub decreases-loop-rest : goal.decreases-loop-rest
 decreases-loop-rest l = length l.rest
+
+abbrev pub invariant-loop-rest-2 : goal.invariant-loop-rest-2
+invariant-loop-rest-2 l = record {
+  summed : l.sum + word_sum l.rest ≡ word_sum l.bytes;
+  small : 2 * l.sum + 65535 * length l.rest ≤ 65535 * length l.bytes;
+}
+
+abbrev pub decreases-loop-rest-2 : goal.decreases-loop-rest-2
+decreases-loop-rest-2 l = length l.rest
