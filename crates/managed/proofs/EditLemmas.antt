@@ -1,9 +1,10 @@
 -- What an edit of the places does to the pairs.
-use Rattle.std.proofs.Common.{◌≡◌, ℕ, zero, suc, ◌<◌, List, [], ◌∷◌, ◌++◌, length, get_or, set, take, drop, Option, Some, None, refl, ap, arith}
+use Rattle.std.proofs.Common.{◌≡◌, ℕ, zero, suc, ◌-◌, ◌<◌, List, [], ◌∷◌, ◌++◌, length, set, take, drop, Option, Some, None, refl, sym, ap, ◌∙◌, arith}
+use Rattle.std.proofs.lemmas.List.{length-drop}
+use Rattle.std.proofs.Math.Seq.{take-length}
 use Rattle.std.specs.declared.cmp.Ordering.{Ordering}
 use Rattle.std.specs.Cmp.{IsTotalOrder}
 use Rattle.std.specs.Map.{remove_entry}
-use Rattle.std.specs.Option.{IsSome}
 use Rattle.std.specs.BTreeMap.{is_at}
 use Rattle.managed.specs.SortedMap.{filled, IsPacked, with_pair}
 use Rattle.managed.specs.Places.{IsFoundAt, IsGapAt, pushed, pulled, closed_up}
@@ -74,9 +75,52 @@ module _ {K V : Type 0} {cmp : K → K → Ordering} (total : IsTotalOrder cmp) 
   packed-inserted (Some e ∷ places) (suc at) value packed gap = packed-inserted places at value packed (record { in_range = omega (arith, gap.in_range); above = gap.above.1; here = gap.here })
 
 module _ {X : Type 0} where
-  -- an empty place takes the item
-  pub pushed_stop : (xs : List (Option X)) (i : ℕ) (carried : Option X) → i < length xs → IsSome carried → get_or xs i None ≡ None → take i xs ++ pushed carried (drop i xs) ≡ set xs i carried
-  pushed_stop [] i carried lt some here = absurd (omega arith)
-  pushed_stop (y ∷ xs) zero None lt some here = absurd (cc)
-  pushed_stop (y ∷ xs) zero (Some x) lt some here = rw here refl
-  pushed_stop (y ∷ xs) (suc i) carried lt some here = ap (λ l. y ∷ l) (pushed_stop xs i carried (omega arith) some here)
+  -- a list of one more than n places, turned up by one, with another item in front
+  turned : (xs ys : List (Option X)) (n : ℕ) (item : Option X) → n < length xs → set (drop n (take (suc n) xs) ++ ys) 0 item ≡ item ∷ ys
+  turned [] ys n item lt = absurd (omega arith)
+  turned (y ∷ xs) ys zero item lt = refl
+  turned (y ∷ xs) ys (suc n) item lt = turned xs ys n item (omega arith)
+
+  shorter : (xs : List (Option X)) (n : ℕ) → take n (take (suc n) xs) ≡ take n xs
+  shorter [] zero = refl
+  shorter [] (suc n) = refl
+  shorter (x ∷ xs) zero = refl
+  shorter (x ∷ xs) (suc n) = ap (λ l. x ∷ l) (shorter xs n)
+
+  turned_back : (xs : List (Option X)) (n : ℕ) (item : Option X) → n < length xs → set (drop n (take (suc n) xs) ++ take n (take (suc n) xs)) 0 item ++ drop (suc n) xs ≡ item ∷ (take n xs ++ drop (suc n) xs)
+  turned_back xs n item lt =
+      let front = turned xs (take n (take (suc n) xs)) n item lt in
+      rw front (ap (λ l. item ∷ (l ++ drop (suc n) xs)) (shorter xs n))
+
+  -- there is an empty place
+  pub pushed_room : (xs : List (Option X)) (x : X) (n end : ℕ) → end ≡ suc n → n ≡ length (filled xs) → n < length xs → set (drop n (take end xs) ++ take n (take end xs)) 0 (Some x) ++ drop end xs ≡ pushed (Some x) xs
+  pushed_room xs x n end next count room = rw next (turned_back xs n (Some x) room ∙ sym (shape x xs n count room))
+    where
+      shape : (x : X) (xs : List (Option X)) (n : ℕ) → n ≡ length (filled xs) → n < length xs → pushed (Some x) xs ≡ Some x ∷ (take n xs ++ drop (suc n) xs)
+      shape x [] n count room = absurd (omega arith)
+      shape x (None ∷ xs) zero count room = refl
+      shape x (None ∷ xs) (suc n) count room = absurd (omega arith)
+      shape x (Some y ∷ xs) zero count room = absurd (omega arith)
+      shape x (Some y ∷ xs) (suc n) count room = ap (λ l. Some x ∷ l) (shape y xs n (omega arith) (omega arith))
+
+  -- there is none, and the last item is lost
+  pub pushed_full : (xs : List (Option X)) (x : X) (n end : ℕ) → end ≡ suc n → end ≡ length (filled xs) → end ≡ length xs → set (drop n (take end xs) ++ take n (take end xs)) 0 (Some x) ++ drop end xs ≡ pushed (Some x) xs
+  pushed_full xs x n end next count full = rw next (turned_back xs n (Some x) (omega arith) ∙ sym (shape x xs n (omega arith) (omega arith)))
+    where
+      shape : (x : X) (xs : List (Option X)) (n : ℕ) → suc n ≡ length (filled xs) → suc n ≡ length xs → pushed (Some x) xs ≡ Some x ∷ (take n xs ++ drop (suc n) xs)
+      shape x [] n count full = absurd (omega arith)
+      shape x (None ∷ xs) n count full = absurd (omega arith)
+      shape x (Some y ∷ []) zero count full = refl
+      shape x (Some y ∷ z ∷ xs) zero count full = absurd (omega arith)
+      shape x (Some y ∷ xs) (suc n) count full = ap (λ l. Some x ∷ l) (shape y xs n (omega arith) (omega arith))
+
+module _ {X : Type 0} where
+  -- the places from one on
+  pub packed_rest : (at : ℕ) (places : List (Option X)) → IsPacked places → IsPacked (take (length places - at) (drop at places))
+  packed_rest at places packed = rw (sym (length-drop at places)) (rw (take-length (drop at places)) (packed_drop at places packed))
+    where
+      packed_drop : (at : ℕ) (places : List (Option X)) → IsPacked places → IsPacked (drop at places)
+      packed_drop zero places packed = packed
+      packed_drop (suc at) [] packed = tt
+      packed_drop (suc at) (None ∷ places) packed = packed_drop at places (packed_vacant places packed)
+      packed_drop (suc at) (Some x ∷ places) packed = packed_drop at places packed

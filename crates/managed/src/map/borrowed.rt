@@ -60,10 +60,12 @@ fn replace_at<K: Drop, V>(places: &mut [Option<(K, V)>], at: usize, key: K, valu
 
 // Puts the pair before the one at a place.
 fn put_at<K: Drop, V: Drop>(places: &mut [Option<(K, V)>], at: usize, key: K, value: V)
-    requires { at ≤ length places.old }
+    requires { (at ≤ length places.old) × IsPacked places.old }
     ensures { places.new ≡ take at places.old ++ pushed (Some (key, value)) (drop at places.old) }
 {
-    push_along(&mut places[at..], (key, value));
+    let behind = &mut places[at..];
+    let count = len(behind);
+    push_along(behind, count, (key, value));
 }
 
 // Takes the pair at a place out.

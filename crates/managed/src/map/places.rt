@@ -1,20 +1,24 @@
 //! Moves among the places of a borrowed map.
-ghost use Rattle.std.specs.Prelude.{◌≡◌, ◌<◌, length, Some, None, slice_index_or};
+ghost use Rattle.std.specs.Prelude.{◌≡◌, ◌<◌, ◌≤◌, length, Some, None, slice_index_or};
 ghost use Rattle.managed.specs.Places.{pushed, closed_up};
+ghost use Rattle.managed.specs.SortedMap.{filled};
 
-use std::mem;
-
-// Puts an item before the places, and moves the others up as far as the first empty place.
-pub(super) fn push_along<X: Drop>(places: &mut [Option<X>], item: X)
+// Puts an item before the places, and moves the others up as far as the first empty place, behind `count` items.
+pub(super) fn push_along<X: Drop>(places: &mut [Option<X>], count: usize, item: X)
+    requires { (count ≡ length (filled places.old)) × (count ≤ length places.old) }
     ensures { places.new ≡ pushed (Some item) places.old }
 {
-    let mut carried = Some(item);
-    for place in places.iter_mut() {
-        mem::swap(place, &mut carried);
-        if carried.is_none() {
-            return;
-        }
+    if places.is_empty() {
+        return;
     }
+    let end = if count < places.len() {
+        count + 1
+    } else {
+        count
+    };
+    let moved = &mut places[..end];
+    moved.rotate_right(1);
+    moved[0] = Some(item);
 }
 
 // Takes the first place's item out, and moves the items behind it down.

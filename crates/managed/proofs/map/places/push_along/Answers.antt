@@ -1,14 +1,20 @@
-use Rattle.std.proofs.Common.{◌≡◌, get_or, None, arith}
-use Rattle.std.proofs.lemmas.Grind.{common_steps}
-use Rattle.managed.proofs.EditLemmas.{pushed_stop}
+use Rattle.std.proofs.Common.{◌-◌, ◌<◌, length, take, sym, arith}
+use Rattle.std.proofs.lemmas.List.{length-take-le}
+use Rattle.managed.proofs.EditLemmas.{pushed_room, pushed_full}
 use Rattle.managed.proofs.map.places.push_along.Goals as goal
+use Rattle.managed.proofs.map.places.push_along.Goals.{then-count-places, else-count-places}
 
--- the item went into an empty place
-pub returns-then-is_none : goal.returns-then-is_none
-returns-then-is_none g c =
-    let at = c.loop-place in
-    let empty : get_or at.places at.place-index None ≡ None = grind (arith, common_steps) in
-    let stop = pushed_stop at.places at.place-index at.carried (omega arith) at.invariant.carried empty in
-    let taken = c.swap.ensures.x_after in
-    let whole = at.invariant.whole in
-    cc
+-- the last of the places that turn is the first empty one, or the last of all
+pub returns : goal.returns
+returns g c =
+    let places = c.args.places.now in
+    let end = c.if-count-places.end in
+    let some : 0 < length places = grind (arith, c.is_empty.ensures, c.if-is_empty.false) in
+    elim c.if-count-places.branch [
+      | then-count-places w ↦
+          let long = length-take-le end places (omega arith) in
+          rw c.rotate_right.ensures.after (pushed_room places c.args.item (length (take end places) - 1) end (omega arith) (omega arith) (omega arith))
+      | else-count-places w ↦
+          let long = length-take-le end places (omega arith) in
+          rw c.rotate_right.ensures.after (pushed_full places c.args.item (length (take end places) - 1) end (omega arith) (omega arith) (omega arith))
+    ]
