@@ -79,7 +79,7 @@ const MASKS: [u32; 33] = [
 ];
 
 /// How many ones a mask begins with, where only zeros follow.
-fn prefix_of(mask: Ipv4Address) -> Option<u8>
+pub fn prefix_of(mask: Ipv4Address) -> Option<u8>
     ensures { result ≡ prefix_of mask }
 {
     let number = u32::from_be_bytes(mask.0);

@@ -19,6 +19,7 @@ mod times;
 pub use config::ClientConfig;
 pub use emit::DhcpEmit;
 pub use event::{Config, Event};
+pub use heard::prefix_of;
 pub use retry::RetryConfig;
 pub use socket::Socket;
 pub use state::{ClientState, Lease, ServerInfo};

@@ -1,4 +1,4 @@
--- A foreign frame has the effect of a tick, and so has every event behind it.
+-- A frame that tells nothing has the effect of a tick, and so has every event behind it.
 use Rattle.std.proofs.Common.{◌≡◌, ℕ, List, [], ◌∷◌, ◌++◌, length, refl, ap, ap₂, ◌∙◌}
 use Rattle.host_model.specs.declared.words.EventWords.{EventWords}
 use Rattle.host_model.specs.Script.{Tick, Frame, Event}
@@ -6,8 +6,8 @@ use Rattle.host_model.specs.Settings.{Settings}
 use Rattle.host_model.specs.History.{Entry}
 use Rattle.host_model.specs.Chronicle.{entry_at, entry_of, history_from, words_at}
 use Rattle.host_model.specs.Foreign.{Effect, IsForeign, effect_of, effects_from}
-use Rattle.host_model.proofs.Alike.{AreAlike}
-use Rattle.host_model.proofs.ForeignEventLemmas.{alike, leaves_frames, leaves_lines}
+use Rattle.host_model.proofs.Alike.{AreAlike, IsIdle}
+use Rattle.host_model.proofs.ForeignEventLemmas.{alike, idle_of, leaves_frames, leaves_lines}
 use Rattle.host_model.proofs.ForeignLemmas.{same_anchor, same_entry, same_length}
 use Rattle.host_model.proofs.ForeignQueryLemmas.{same_frames, same_lines}
 
@@ -23,7 +23,7 @@ module _ (settings : Settings) (before : List Entry) (one other : Entry)
       )
       refl
 
-  later_effects : (words : List ℕ) (newer : List Entry) (events : List Event)
+  pub later_effects : (words : List ℕ) (newer : List Entry) (events : List Event)
       → effects_from settings words (newer ++ one ∷ before) events
       ≡ effects_from settings words (newer ++ other ∷ before) events
   later_effects words newer [] = refl
@@ -40,21 +40,21 @@ module _ (settings : Settings) (before : List Entry) (one other : Entry)
       ∙ ap₂ (λ effect more. effect ∷ more) (same_effect newer entry)
       (later_effects words (entry ∷ newer) events)
 
--- with a tick in place of a foreign frame, behind any entries
-changes_nothing : (settings : Settings) (words : List ℕ) (before : List Entry) (later : List Event) (at : ℕ)
-    (bytes : List ℕ) → IsForeign settings before bytes
+-- with a tick in place of such a frame, behind any entries
+pub changes_nothing : (settings : Settings) (words : List ℕ) (before : List Entry) (later : List Event) (at : ℕ)
+    (bytes : List ℕ) → IsIdle settings before at bytes
     → effects_from settings words before (record { at = at; arrival = Frame bytes } ∷ later)
     ≡ effects_from settings words before (record { at = at; arrival = Tick } ∷ later)
-changes_nothing settings words before later at bytes foreign =
+changes_nothing settings words before later at bytes idle =
     let own : EventWords = words_at words (length before) in
     let one : Entry = entry_of settings before (record { at = at; arrival = Frame bytes }) own in
     let other : Entry = entry_of settings before (record { at = at; arrival = Tick }) own in
-    let like : AreAlike settings before one other = alike settings before at bytes foreign own in
+    let like : AreAlike settings before one other = alike settings before at bytes idle own in
     let same : effect_of settings before one ≡ effect_of settings before other =
     rw (
       like.sent,
-      leaves_frames settings before at bytes foreign own,
-      leaves_lines settings before at bytes foreign own,
+      leaves_frames settings before at bytes idle own,
+      leaves_lines settings before at bytes idle own,
       like.anchor,
     )
     refl in
@@ -66,7 +66,7 @@ pub nothing_changes : (settings : Settings) (words : List ℕ) (before : List En
     → effects_from settings words before (earlier ++ record { at = at; arrival = Frame bytes } ∷ later)
     ≡ effects_from settings words before (earlier ++ record { at = at; arrival = Tick } ∷ later)
 nothing_changes settings words before [] later at bytes foreign =
-    changes_nothing settings words before later at bytes foreign
+    changes_nothing settings words before later at bytes (idle_of settings before at bytes foreign)
 nothing_changes settings words before (event ∷ earlier) later at bytes foreign =
     ap (λ more. effect_of settings before (entry_at settings words before event) ∷ more)
     (nothing_changes settings words (entry_at settings words before event ∷ before) earlier later at bytes

@@ -19,7 +19,7 @@ module _ (settings : Settings) (before : List Entry) (one other : Entry)
   same_length [] = refl
   same_length (entry ∷ newer) = ap suc (same_length newer)
 
-  same_id : (newer : List Entry) → last_id (newer ++ one ∷ before) ≡ last_id (newer ++ other ∷ before)
+  pub same_id : (newer : List Entry) → last_id (newer ++ one ∷ before) ≡ last_id (newer ++ other ∷ before)
   same_id [] = ap (λ sent. id_of sent (last_id before)) alike.sent
   same_id (entry ∷ newer) = ap (id_of entry.sent) (same_id newer)
 
@@ -30,12 +30,12 @@ module _ (settings : Settings) (before : List Entry) (one other : Entry)
       ap₂ (λ sent at. with_time sent at (sent_times (take count before))) alike.sent alike.at
   same_sent (suc count) (entry ∷ newer) = ap (with_time entry.sent entry.event.at) (same_sent count newer)
 
-  same_times : (newer : List Entry) (place : ℕ)
+  pub same_times : (newer : List Entry) (place : ℕ)
       → times_since place (newer ++ one ∷ before) ≡ times_since place (newer ++ other ∷ before)
   same_times newer place =
       rw (same_length newer) (same_sent (length (newer ++ other ∷ before) - place) newer)
 
-  same_neighbor : (newer : List Entry) (address : Ipv4Address)
+  pub same_neighbor : (newer : List Entry) (address : Ipv4Address)
       → neighbor_in settings (events_of (newer ++ one ∷ before)) address
       ≡ neighbor_in settings (events_of (newer ++ other ∷ before)) address
   same_neighbor [] address =

@@ -14,11 +14,11 @@ use Rattle.host_model.proofs.ForeignLemmas.{same_anchor, same_held, same_hop, sa
 
 module _ (settings : Settings) (before : List Entry) (one other : Entry)
     (alike : AreAlike settings before one other) where
-  same_servers : (newer : List Entry)
+  pub same_servers : (newer : List Entry)
       → servers_before settings (newer ++ one ∷ before) ≡ servers_before settings (newer ++ other ∷ before)
   same_servers newer = ap servers_under (same_anchor settings before one other alike newer)
 
-  same_count : (newer : List Entry)
+  pub same_count : (newer : List Entry)
       → query_count (newer ++ one ∷ before) ≡ query_count (newer ++ other ∷ before)
   same_count [] = alike.count
   same_count (entry ∷ newer) = ap (counted entry.event.arrival) (same_count newer)
@@ -45,7 +45,7 @@ module _ (settings : Settings) (before : List Entry) (one other : Entry)
       )
       refl
 
-  same_slots : (newer : List Entry)
+  pub same_slots : (newer : List Entry)
       → slots_before settings (newer ++ one ∷ before) ≡ slots_before settings (newer ++ other ∷ before)
   same_slots [] = alike.slots
   same_slots (entry ∷ newer) =

@@ -18,20 +18,20 @@ use Rattle.net_host.specs.Rows.{AreRows, AreRowsFrom}
 use Rattle.net_host.proofs.CutLemmas.{one_listing}
 
 -- what a row says of an effect
-record Says (settings : Settings) (effect : Effect) (row : Row) : Type 0 where
-  time : row.at ≡ pos effect.at
-  lease : row.lease ≡ effect.leased
-  sent : AreListed settings effect.frames row.sent
-  lines : row.lines ≡ effect.lines
-  fits : AllByRecursion FitsFrame effect.frames
+pub record Says (settings : Settings) (effect : Effect) (row : Row) : Type 0 where
+  pub time : row.at ≡ pos effect.at
+  pub lease : row.lease ≡ effect.leased
+  pub sent : AreListed settings effect.frames row.sent
+  pub lines : row.lines ≡ effect.lines
+  pub fits : AllByRecursion FitsFrame effect.frames
 
-abbrev AllSay : Settings → List Effect → List Row → Type 0
+abbrev pub AllSay : Settings → List Effect → List Row → Type 0
 AllSay settings [] [] = Unit {0}
 AllSay settings [] (row ∷ rows) = ⊥
 AllSay settings (effect ∷ effects) [] = ⊥
 AllSay settings (effect ∷ effects) (row ∷ rows) = Says settings effect row × AllSay settings effects rows
 
-rows_say : (settings : Settings) → HasWidths settings → CanRun settings → (words : List ℕ)
+pub rows_say : (settings : Settings) → HasWidths settings → CanRun settings → (words : List ℕ)
     (before : List Entry) (events : List Event) (rows : List Row)
     → AreRowsFrom settings words before events rows
     → AllSay settings (effects_from settings words before events) rows
@@ -50,7 +50,7 @@ rows_say settings widths can words before (event ∷ events) (row ∷ rows) are 
       rows_say settings widths can words (entry ∷ before) events rows are.1,
     )
 
-say_the_same : (settings : Settings) (effects : List Effect) (rows others : List Row)
+pub say_the_same : (settings : Settings) (effects : List Effect) (rows others : List Row)
     → AllSay settings effects rows → AllSay settings effects others → AllSayTheSame rows others
 say_the_same settings [] [] [] say also_say = tt
 say_the_same settings [] [] (other ∷ others) say also_say = also_say

@@ -13,6 +13,7 @@ pub mod FrontLemmas
 pub mod GrantLemmas
 pub mod HistoryLemmas
 pub mod HoldingLemmas
+pub mod IgnoredRowLemmas
 pub mod InstantLemmas
 pub mod KeptLemmas
 pub mod LeaseLemmas

@@ -9,6 +9,7 @@ pub mod Handling
 pub mod Hearing
 pub mod Holding
 pub mod HostConfig
+pub mod IgnoredRows
 pub mod Lines
 pub mod Listed
 pub mod ListedCut

@@ -3,6 +3,7 @@ ghost use Rattle.net_host.specs.Config.{DefaultsAreAccepted, RequestsHaveOneLeng
 ghost use Rattle.net_host.specs.ConfigExamples.{LinkEdges, LeastTimeouts, GreatestTimeouts};
 ghost use Rattle.net_host.specs.ConfigExamples.{RetriesEdges, PortEdges, ListEdges, TellsFirst};
 ghost use Rattle.net_host.specs.ForeignRows.{ForeignFramesChangeNoRow};
+ghost use Rattle.net_host.specs.IgnoredRows.{IgnoredFramesChangeNoRow};
 ghost use Rattle.net_host.specs.ListedCut.{RowsAreCut};
 ghost use Rattle.net_host.specs.QueryRows.{RowsAskFourTimes, RowsHaveOneLineEach};
 
@@ -31,6 +32,13 @@ pub fn rows_are_cut()
 #[tactic(auto, using(crate::proofs::ForeignRowLemmas::rows_stay))]
 pub fn foreign_frames_change_no_row()
     ensures { ForeignFramesChangeNoRow }
+{}
+
+/// Frames that are ignored, some of them or all, change no row and no record of the capture but their own: with ticks at
+/// their times in their places, every other row is the same, and that of a tick says the same.
+#[tactic(auto, using(crate::proofs::IgnoredRowLemmas::rows_stay))]
+pub fn ignored_frames_change_no_row()
+    ensures { IgnoredFramesChangeNoRow }
 {}
 
 /// A script's rows have at most four frames of one query to one place of its list of name servers.

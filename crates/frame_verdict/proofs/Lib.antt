@@ -1,0 +1,5 @@
+pub mod CarriedLemmas
+pub mod IdleLemmas
+pub mod SpokenLemmas
+pub mod DecidedLemmas
+pub mod TickedLemmas

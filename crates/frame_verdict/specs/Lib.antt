@@ -1,0 +1,9 @@
+pub mod Brought
+pub mod BroughtValue
+pub mod Ignored
+pub mod Leaving
+pub mod MessageVerdict
+pub mod ResponseVerdict
+pub mod Verdict
+pub mod VerdictExamples
+pub mod VerdictText
