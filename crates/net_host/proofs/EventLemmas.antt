@@ -1,11 +1,13 @@
 -- What the DHCP client's part of an event leaves in a host that agrees with the history before it.
-use Rattle.std.proofs.Common.{◌≡◌, ◌<◌, List, [], ◌∷◌, ◌++◌, cond, Option, Some, None, ap, sym, subst, ◌∙◌, refl, ℕ}
+use Rattle.std.proofs.Common.{◌≡◌, ◌<◌, List, [], ◌∷◌, ◌++◌, cond, Option, Some, None, ap, sym, subst, ◌∙◌, refl, ℕ, arith}
+use Rattle.std.specs.Option.{option_map}
 use Rattle.net_wire.specs.declared.address.Ipv4Address.{Ipv4Address}
 use Rattle.net_wire.specs.declared.error.Context.{Context}
 use Rattle.dhcp_client.specs.Client.{Client}
 use Rattle.dhcp_client.specs.Hearing.{same_address}
 use Rattle.dhcp_client.specs.Messages.{limited_broadcast}
 use Rattle.host_model.specs.declared.held.Held.{Held}
+use Rattle.host_model.specs.declared.neighbor.Neighbor.{Neighbor}
 use Rattle.host_model.specs.declared.words.EventWords.{EventWords}
 use Rattle.host_model.specs.Anchor.{anchor_after_arrival, anchor_at, anchor_before}
 use Rattle.host_model.specs.Chronicle.{entry_of}
@@ -13,7 +15,7 @@ use Rattle.host_model.specs.Frames.{dhcp_asked, dhcp_frames, lease_frames, repli
 use Rattle.host_model.specs.History.{Entry}
 use Rattle.host_model.specs.Lease.{held_before}
 use Rattle.host_model.specs.Named.{named_message}
-use Rattle.host_model.specs.Neighbor.{ethernet_broadcast, events_of, hop_address, hop_of, known_at, known_hop, told_by, told_to}
+use Rattle.host_model.specs.Neighbor.{ethernet_broadcast, events_of, hop_address, hop_of, known_at, known_hop, neighbor_in, told_by, told_to}
 use Rattle.host_model.specs.Script.{Event, time_limit}
 use Rattle.host_model.specs.Settings.{Settings}
 use Rattle.net_host.specs.declared.emitter.Emitter.{Emitter}
@@ -26,7 +28,7 @@ use Rattle.net_host.specs.Following.{AgreesUnder, Holding}
 use Rattle.net_host.specs.Hearing.{after_arrival, after_told, IsShortIn}
 use Rattle.net_host.specs.Holding.{host_holding}
 use Rattle.net_host.specs.Listed.{AreListed}
-use Rattle.net_host.specs.Neighbors.{Table, TableAgrees, table_after}
+use Rattle.net_host.specs.Neighbors.{Table, TableAgrees, IsSince, neighbor_with, table_after}
 use Rattle.net_host.specs.Polling.{Polled}
 use Rattle.net_host.proofs.AnsweredLemmas.{answered}
 use Rattle.net_host.proofs.ArrivalLemmas.{heard}
@@ -34,14 +36,18 @@ use Rattle.net_host.proofs.Contexts.{IsContextOf}
 use Rattle.net_host.proofs.HistoryLemmas.{KnowsHops}
 use Rattle.net_host.proofs.KeptLemmas.{Told, told_leaves, kept_by, refused_by}
 use Rattle.net_host.proofs.ListingLemmas.{asked, leaves_listed, listed_append, replied, replies_listed}
-use Rattle.net_host.proofs.NeighborLemmas.{learned_agrees}
+use Rattle.net_host.proofs.NeighborLemmas.{hop_still, learned_agrees}
 
 -- the hops that the emitter knows are those that the events tell of
 hop_at_is : (settings : Settings) (events : List Event) (at : ℕ) (out : Emitter) (address : Option Ipv4Address)
-    → out.at ≡ at → TableAgrees settings events out.neighbors → hop_at out address ≡ known_at settings events at address
-hop_at_is settings events at out None is_at agrees = refl
-hop_at_is settings events at out (Some address) is_at agrees =
-    ap (λ neighbor. hop_of out.at neighbor) (agrees.finds address) ∙ rw is_at refl
+    → out.at ≡ at → IsSince events at → TableAgrees settings events out.neighbors
+    → hop_at out address ≡ known_at settings events at address
+hop_at_is settings events at out None is_at since agrees = refl
+hop_at_is settings events at out (Some address) is_at since agrees =
+    ap (λ at. hop_of at (neighbor_with out.neighbors address)) is_at
+    ∙ hop_still at (neighbor_with out.neighbors address)
+    ∙ ap (option_map (λ (neighbor : Neighbor). neighbor.hardware)) (agrees.finds address at since)
+    ∙ sym (hop_still at (neighbor_in settings events address))
 
 pub knows : (settings : Settings) (before : List Entry) (event : Event) (out : Emitter)
     → out.hardware ≡ settings.hardware → out.held ≡ held_before settings before → out.at ≡ event.at
@@ -50,7 +56,7 @@ knows settings before event out is_hardware is_held is_at agrees = record {
   hardware = is_hardware;
   hops = λ destination.
       ap (λ hop. cond (same_address destination limited_broadcast) (Some ethernet_broadcast) hop)
-      (hop_at_is settings (event ∷ events_of before) event.at out (hop_address out.held destination) is_at agrees
+      (hop_at_is settings (event ∷ events_of before) event.at out (hop_address out.held destination) is_at (omega arith) agrees
       ∙ ap (λ held. known_at settings (event ∷ events_of before) event.at (hop_address held destination)) is_held);
 }
 
@@ -70,13 +76,14 @@ pub record Leased (settings : Settings) (before : List Entry) (event : Event) (w
 pub leased : (settings : Settings) (before : List Entry) (event : Event) (words : EventWords) (cx : Context) (old : Host)
     (begun mid later out : Emitter) (client last : Client)
     → IsFair settings.client.retry → IsContextOf settings event.at cx → event.at < time_limit → AgreesWithHistory settings before old
+    → IsSince (events_of before) event.at
     → begun ≡ record old.out { at = event.at; sent = []; refused = None }
     → mid ≡ record (after_told (told_to begun.hardware event.arrival) begun) { numbers = mid.numbers }
     → client ≡ after_arrival cx event.arrival old.dhcp → IsShortIn cx event.arrival old.dhcp
     → Polled cx words.first client mid last later
     → out ≡ record later { sent = later.sent ++ asked later }
     → Leased settings before event words (host_holding old) last mid out
-leased settings before event words cx old begun mid later out client last fair is_cx in_range agrees begins tells hears short polling asks =
+leased settings before event words cx old begun mid later out client last fair is_cx in_range agrees since begins tells hears short polling asks =
     let arp = told_by settings event.arrival in
     let begun_hardware : begun.hardware ≡ settings.hardware = ap (λ (e : Emitter). e.hardware) begins ∙ agrees.hardware in
     let begun_held : begun.held ≡ held_before settings before = ap (λ (e : Emitter). e.held) begins ∙ agrees.held in
@@ -91,7 +98,7 @@ leased settings before event words cx old begun mid later out client last fair i
     let table : mid.neighbors ≡ table_after arp event.at old.out.neighbors =
     leaves.neighbors ∙ ap (λ at. table_after arp at begun.neighbors) begun_at
     ∙ ap (λ (e : Emitter). table_after arp event.at e.neighbors) begins in
-    let learned = subst N (sym table) (learned_agrees settings event (events_of before) old.out.neighbors agrees.neighbors) in
+    let learned = subst N (sym table) (learned_agrees settings event (events_of before) old.out.neighbors since agrees.neighbors) in
     let mid_hardware = leaves.hardware ∙ begun_hardware in
     let mid_held = leaves.held ∙ begun_held in
     let C : Client → Type 0 = λ c. AgreesUnder settings before (anchor_after_arrival settings before event.at event.arrival

@@ -13,7 +13,7 @@ use Rattle.net_host.specs.Hearing.{after_told}
 use Rattle.net_host.specs.Neighbors.{pair_count, place_count, table_after}
 use Rattle.net_host.proofs.Leaving.{Leaves, LeavesOne}
 use Rattle.net_host.proofs.ListingLemmas.{replied}
-use Rattle.net_host.proofs.NeighborLemmas.{one_more}
+use Rattle.net_host.proofs.NeighborLemmas.{learned_places, one_more}
 
 -- what an arrival leaves of an emitter that began an event
 pub record Told (told : Option ArpRepr) (out later : Emitter) : Type 0 where
@@ -39,7 +39,7 @@ told_leaves (Some arp) out numbers empty = record { hardware = refl; held = refl
 -- its table has one station more at most, in as many places
 pub told_places : (told : Option ArpRepr) (out : Emitter) → place_count (after_told told out).neighbors ≡ place_count out.neighbors
 told_places None out = refl
-told_places (Some arp) out = refl
+told_places (Some arp) out = learned_places arp out.at out.neighbors
 
 pub told_few : (told : Option ArpRepr) (out : Emitter) → pair_count (after_told told out).neighbors ≤ pair_count out.neighbors + 1
 told_few None out = omega arith

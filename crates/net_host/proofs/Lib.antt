@@ -5,6 +5,7 @@ pub mod CompleteLemmas
 pub mod ConfigLemmas
 pub mod Contexts
 pub mod CountedLemmas
+pub mod CrowdedLemmas
 pub mod CutLemmas
 pub mod DueLemmas
 pub mod EventLemmas

@@ -2,6 +2,7 @@ pub mod Agreement
 pub mod Captured
 pub mod Config
 pub mod ConfigExamples
+pub mod Crowding
 pub mod Emitter
 pub mod Following
 pub mod ForeignRows

@@ -1,6 +1,7 @@
 -- When time alone brings something about in a host: the moments behind that of its last event. What was due by then, and did not
 -- find its hop, waits for any event.
-use Rattle.std.specs.Prelude.{ℕ, ℤ, pos, nat_lt, List, [], ◌∷◌, Option, Some, None, if◌then◌else◌}
+use Rattle.std.specs.Prelude.{ℕ, ◌≤◌, ℤ, pos, nat_lt, List, [], ◌∷◌, Option, Some, None, ⊤, if◌then◌else◌}
+use Rattle.phy_layers.specs.PcapBytes.{epoch_micros}
 use Rattle.dhcp_client.specs.declared.retry.RetryConfig.{RetryConfig}
 use Rattle.dhcp_client.specs.Times.{Spans}
 use Rattle.dns_client.specs.Slots.{behind, earlier}
@@ -16,6 +17,11 @@ use Rattle.host_model.specs.Settings.{Settings}
 abbrev pub last_moment : List Entry → Option ℤ
 last_moment [] = None
 last_moment (entry ∷ before) = Some (pos entry.event.at)
+
+-- an instant is not before the last one, where there was one
+abbrev pub IsFrom : Option ℤ → ℤ → Type 0
+IsFrom None at = ⊤
+IsFrom (Some last) at = epoch_micros last ≤ epoch_micros at
 
 abbrev pub moment : Option ℤ → ℕ → Option ℤ
 moment last at = behind last (Some (pos at))

@@ -1,6 +1,7 @@
 //! The next hop of a datagram (RFC 1122, section 3.3.1).
 ghost use Rattle.std.specs.Prelude.{◌≡◌};
 ghost use Rattle.host_model.specs.Neighbor.{front_bits, is_on_network, hop_address, hop_of};
+ghost use Rattle.net_host.specs.Neighbors.{is_believed};
 
 use host_model::{Held, Neighbor};
 use net_wire::{EthernetAddress, Ipv4Address};
@@ -41,9 +42,16 @@ pub(crate) fn hop_of(at: u64, neighbor: Option<Neighbor>) -> Option<EthernetAddr
     ensures { result ≡ hop_of at neighbor }
 {
     let neighbor = neighbor?;
-    if at.saturating_sub(neighbor.since) < BELIEVED_MICROS {
+    if is_believed(at, &neighbor) {
         Some(neighbor.hardware)
     } else {
         None
     }
+}
+
+/// Whether what a station told is believed at a time in microseconds.
+pub(crate) fn is_believed(at: u64, neighbor: &Neighbor) -> bool
+    ensures { result ≡ is_believed at neighbor.now }
+{
+    at.saturating_sub(neighbor.since) < BELIEVED_MICROS
 }

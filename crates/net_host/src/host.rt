@@ -1,45 +1,38 @@
 //! A host, and what it does in one event.
-ghost use Rattle.std.specs.Prelude.{◌≡◌, ℕ, ◌<◌, ◌^◌, false, List, ◌∷◌, Option, None, replicate, IsUtf8, IfOk, OnOk};
-ghost use Rattle.std.specs.Option.{option_map};
-ghost use Rattle.dhcp_client.specs.Hearing.{ear_of};
-ghost use Rattle.dhcp_client.specs.Heard.{IsShort};
-ghost use Rattle.net_wire.specs.declared.address.IpAddress.{IpAddress};
+ghost use Rattle.std.specs.Prelude.{◌≡◌, ◌<◌, ◌^◌, true, false, List, ◌∷◌, Option, Some, None, replicate, ◌↔◌, IsUtf8, IfOk, OnOk};
+ghost use Rattle.std.specs.Result.{IsErrOf};
 ghost use Rattle.dns_client.specs.Client.{client_of};
-ghost use Rattle.net_wire.specs.ArrivalValues.{datagram_value};
-ghost use Rattle.host_model.specs.Frames.{not_asked};
-ghost use Rattle.host_model.specs.Hearing.{heard_by, is_for_client};
 ghost use Rattle.host_model.specs.Neighbor.{told_to};
-ghost use Rattle.host_model.specs.Queries.{hears_datagram};
-ghost use Rattle.host_model.specs.QuerySlots.{Slot};
+ghost use Rattle.net_wire.specs.declared.arp.ArpRepr.{ArpRepr};
 ghost use Rattle.host_model.specs.Script.{IsArrival, Query};
 ghost use Rattle.host_model.specs.Settings.{Settings};
-ghost use Rattle.net_host.specs.Hearing.{after_arrival, after_datagram, after_told, IsShortIn};
-ghost use Rattle.net_host.specs.Holding.{held_after, served_after};
-ghost use Rattle.net_host.specs.Handling.{CanHandle};
-ghost use Rattle.net_host.specs.Polling.{Polled, IsReady};
+ghost use Rattle.net_host.specs.Crowding.{IsCrowded};
+ghost use Rattle.net_host.specs.Hearing.{after_arrival, after_told, IsShortIn};
+ghost use Rattle.net_host.specs.Handling.{CanTake};
+ghost use Rattle.net_host.specs.Moments.{IsFrom};
+ghost use Rattle.net_host.specs.Neighbors.{place_for};
+ghost use Rattle.net_host.specs.Polling.{IsReady};
 ghost use Rattle.net_host.specs.QueryHearing.{HearsQueries};
 ghost use Rattle.net_host.specs.QueryPolling.{AreLent};
 ghost use Rattle.net_host.specs.QueryReady.{HoldsQueries};
-ghost use Rattle.net_host.specs.QueryStanding.{StandAs};
-ghost use Rattle.script_reader.specs.Reading.{arrival_of};
+ghost use Rattle.script_reader.specs.Reading.{arrival_of, event_at};
 ghost use Rattle.phy_layers.specs.PcapBytes.{epoch_micros, IsCapturable};
 
 use crate::arrived::{kind_of, note_for};
+use crate::clients::{hold, not_asked, poll_dhcp, tell_datagram};
 use crate::emitter::Emitter;
+use crate::handle_error::HandleError;
 use crate::moments::{earlier, state_moment};
 use crate::neighbors::Neighbors;
-use crate::queries::{end_queries, hear_response, poll_dns, serve, start};
+use crate::queries::{end_queries, poll_dns, start};
 use crate::{HostConfig, LineList, Row, ScriptEvent, SentList};
-use dhcp_client::{Event, Socket};
+use dhcp_client::Socket;
 use dns_client::DnsQuery;
 use host_model::{EventWords, Held, Neighbor, Outcome, QueryLine};
 use managed::ManagedSlice;
 use net_wire::arp::arp_of;
 use net_wire::dns::DnsType;
-use net_wire::{
-    ArpRepr, Context, Datagram, EmitError, Instant, Ipv4Address, Ipv4Cidr, NoMemory, Sources,
-    datagram_of,
-};
+use net_wire::{ArpRepr, Context, Instant, Ipv4Address, Ipv4Cidr, NoMemory, Sources, datagram_of};
 use std::alloc::Global;
 
 /// A host, between two events. It stands over places for the stations of its link and slots for its queries, which were lent.
@@ -112,6 +105,7 @@ impl<'a, 'm> Host<'a, 'm> {
         ensures queries { result.queries ≡ 0 }
         ensures places { place_count result.out.neighbors ≡ length places.old }
         ensures few { pair_count result.out.neighbors ≡ 0 }
+        ensures last { result.last ≡ None }
     {
         let neighbors = Neighbors::new(places);
         Host {
@@ -166,28 +160,38 @@ impl<'a, 'm> Host<'a, 'm> {
         earlier(lease, queries)
     }
 
-    /// Takes in an event, and gives its row: what arrived, the address that is leased then, the frames that are sent and what became
-    /// of queries. Once memory ran out the host can't be used again.
+    /// Takes in an event that comes no earlier than the last one, and gives its row: what arrived, the address that is leased then,
+    /// the frames that are sent and what became of queries. Once memory ran out the host can't be used again.
     pub fn handle(
         &mut self,
         at: Instant,
         event: ScriptEvent<'_>,
         words: EventWords,
-    ) -> Result<Row, NoMemory>
+    ) -> Result<Row, HandleError>
         requires can { CanMeet self.old }
         requires time { IsCapturable at }
+        requires order { IsFrom self.old.last at }
         requires arrival { IsArrival (arrival_of event) }
         requires number { self.old.queries < 10000 }
-        requires room { HasRoom self.old.out.neighbors }
         // For whatever events came before: the row is that of the event, and the host goes on behind it.
         ensures row { IfOk result (GivesRow at event.entry words self.old) }
         ensures agrees { OnOk result (Meets at event.entry words self.old self.new) }
         ensures can { OnOk result (CanMeet self.new) }
-        // The next event may come while there is a number for its query, and a place for its station.
+        // There is no place, just where the events so far need them all; never while one is free. Then the host is as it was.
+        ensures full { (settings : Settings) (before : List Entry) → AgreesWithHistory settings before self.old
+            → (IsErrOf result HandleError.Full
+            ↔ IsCrowded settings before (event_at at event.entry) (place_count self.old.out.neighbors)) }
+        ensures room { IsErrOf result HandleError.Full → HasRoom self.old.out.neighbors → ⊥ }
+        ensures err { IsErrOf result HandleError.Full → self.new ≡ self.old }
+        // What the next event may rely on.
+        ensures last { OnOk result (self.new.last ≡ Some at) }
         ensures queries { OnOk result (self.new.queries ≡ counted (arrival_of event.entry) self.old.queries) }
         ensures places { OnOk result (place_count self.new.out.neighbors ≡ place_count self.old.out.neighbors) }
         ensures few { OnOk result (pair_count self.new.out.neighbors ≤ pair_count self.old.out.neighbors + 1) }
     {
+        if !self.has_place(at, event) {
+            return Err(HandleError::Full);
+        }
         let kind = kind_of(event);
         let note = note_for(event);
         let handled = self.answer(at, event, words)?;
@@ -201,6 +205,25 @@ impl<'a, 'm> Host<'a, 'm> {
         })
     }
 
+    /// Whether there is a place for the station that an event tells of, if it tells of one.
+    fn has_place(&self, at: Instant, event: ScriptEvent<'_>) -> bool
+        requires { IsCapturable at }
+        ensures value { result ≡ place_for (told_to self.now.out.hardware (arrival_of event.entry)) (epoch_micros at) self.now.out.neighbors }
+        ensures within { (arp : ArpRepr) → told_to self.now.out.hardware (arrival_of event.entry) ≡ Some arp
+            → pair_count self.now.out.neighbors ≤ place_count self.now.out.neighbors }
+    {
+        match event {
+            ScriptEvent::Frame(frame) => match arp_of(frame, self.out.hardware) {
+                Some(told) => self
+                    .out
+                    .neighbors
+                    .has_place(told.source_protocol_addr, epoch_micros(at)),
+                None => true,
+            },
+            ScriptEvent::Tick | ScriptEvent::Reset | ScriptEvent::Query { .. } => true,
+        }
+    }
+
     /// Takes in an event, and gives the address that is leased then and the frames that are sent.
     pub(crate) fn answer(
         &mut self,
@@ -208,12 +231,13 @@ impl<'a, 'm> Host<'a, 'm> {
         event: ScriptEvent<'_>,
         words: EventWords,
     ) -> Result<Handled, NoMemory>
-        requires can { CanHandle self.old }
+        requires can { CanTake at (arrival_of event) self.old }
         requires time { IsCapturable at }
         requires arrival { IsArrival (arrival_of event) }
         ensures value { IfOk result (HandlesEvent at event.entry words self.old self.new) }
         ensures within { IfOk result (λ handled. AreCapturable handled.sent) }
         ensures ready { OnOk result (IsReady self.new.dhcp self.new.ip_mtu) }
+        ensures last { OnOk result (self.new.last ≡ Some at) }
         ensures places { OnOk result (place_count self.new.out.neighbors ≡ place_count self.old.out.neighbors) }
         ensures few { OnOk result (pair_count self.new.out.neighbors ≤ pair_count self.old.out.neighbors + 1) }
         ensures lent { OnOk result (AreLent (client_of self.new.dns)) }
@@ -254,7 +278,9 @@ impl<'a, 'm> Host<'a, 'm> {
         event: ScriptEvent<'_>,
         words: EventWords,
     ) -> Result<Option<QueryLine>, NoMemory>
-        requires can { CanHandle self.old }
+        requires lent { AreLent (client_of self.old.dns) }
+        requires few { self.old.queries < 10000 }
+        requires place { place_for (told_to self.old.out.hardware (arrival_of event)) self.old.out.at self.old.out.neighbors ≡ true }
         requires arrival { IsArrival (arrival_of event) }
         requires hardware { cx.now.hardware_addr ≡ self.old.out.hardware }
         ensures dhcp { OnOk result (self.new.dhcp ≡ after_arrival cx.entry.now (arrival_of event.entry) self.old.dhcp) }
@@ -319,7 +345,7 @@ impl<'a, 'm> Host<'a, 'm> {
 
     /// Takes in the ARP packet that a frame brings, where it brings one that counts.
     fn take_told(&mut self, told: Option<ArpRepr>) -> Result<(), NoMemory>
-        requires { CanHandle self.old }
+        requires { place_for told self.old.out.at self.old.out.neighbors ≡ true }
         ensures out { OnOk result (self.new.out ≡ after_told told self.old.out) }
         ensures dhcp { self.new.dhcp ≡ self.old.dhcp }
         ensures dns { client_of self.new.dns ≡ client_of self.old.dns }
@@ -352,92 +378,4 @@ fn epoch_micros(at: Instant) -> u64
     ensures { result ≡ epoch_micros at }
 {
     at.total_micros() as u64
-}
-
-/// Tells the clients what a datagram brings: the DHCP client where it goes from the port of servers to its own,
-/// and else the DNS client.
-fn tell_datagram(
-    dhcp: &mut Socket<'_>,
-    dns: &mut dns_client::Socket<'_>,
-    cx: &Context,
-    datagram: Option<Datagram<'_>>,
-)
-    ensures dhcp { dhcp.new ≡ after_datagram cx.entry.now (option_map datagram_value datagram.entry) dhcp.old }
-    ensures short { IsShort (heard_by (ear_of dhcp.old cx.entry.now) (option_map datagram_value datagram.entry)) }
-    ensures queries { (settings : Settings) (servers : List IpAddress) (slots : List Slot) (numbers : List ℕ)
-        → settings.client ≡ dhcp.old.settings
-        → StandAs servers slots (client_of dns.old) numbers
-        → StandAs servers (hears_datagram settings servers (option_map datagram_value datagram.entry) slots)
-        (client_of dns.new) numbers }
-    ensures lent { AreLent (client_of dns.old) → AreLent (client_of dns.new) }
-{
-    if let Some(datagram) = datagram {
-        if is_for_client(dhcp, &datagram) {
-            dhcp.process(cx, datagram.src_addr, datagram.payload);
-        } else {
-            hear_response(dns, &datagram);
-        }
-    }
-}
-
-/// Whether a datagram goes from the port of servers to that of the DHCP client.
-fn is_for_client(dhcp: &Socket<'_>, datagram: &Datagram<'_>) -> bool
-    ensures { result ≡ is_for_client dhcp.now.settings (datagram_value datagram.now) }
-{
-    datagram.src_port == dhcp.server_port() && datagram.dst_port == dhcp.client_port()
-}
-
-/// The address to ask for, where it is not the one that was asked for.
-fn not_asked(asked: Option<Ipv4Address>, address: Option<Ipv4Address>) -> Option<Ipv4Address>
-    ensures { result ≡ not_asked asked address }
-{
-    if asked == address { None } else { address }
-}
-
-/// Holds what the DHCP client leases by now, where that changed, and lets its servers be asked.
-fn hold(dhcp: &mut Socket<'_>, held: &mut Option<Held>, dns: &mut dns_client::Socket<'_>)
-    ensures held { held.new ≡ held_after dhcp.old held.old }
-    ensures told { dhcp.new ≡ record dhcp.old { changed = false } }
-    ensures servers { (servers : List IpAddress) (slots : List Slot) (numbers : List ℕ)
-        → StandAs servers slots (client_of dns.old) numbers
-        → StandAs (served_after dhcp.old servers) slots (client_of dns.new) numbers }
-    ensures lent { AreLent (client_of dns.old) → AreLent (client_of dns.new) }
-{
-    match dhcp.poll() {
-        Some(Event::Configured(config)) => {
-            *held = Some(Held {
-                address: config.address,
-                router: config.router,
-            });
-            serve(dns, config.dns_servers);
-        }
-        Some(Event::Deconfigured) => {
-            *held = None;
-            serve(dns, &[]);
-        }
-        None => {}
-    }
-}
-
-/// Sends what the DHCP client has due; a message whose next hop is not known ends it. `word` is the id of a
-/// message that begins an exchange.
-pub(crate) fn poll_dhcp(
-    dhcp: &mut Socket<'_>,
-    cx: &Context,
-    word: u32,
-    out: &mut Emitter<'_>,
-) -> Result<(), NoMemory>
-    requires ready { IsReady dhcp.old cx.now.ip_mtu }
-    requires time { IsCapturable cx.now.now }
-    ensures value { OnOk result (Polled cx.entry.now word dhcp.old out.old dhcp.new out.new) }
-    ensures ready { IsReady dhcp.new cx.entry.now.ip_mtu }
-{
-    while dhcp.poll_at() <= cx.now {
-        match dhcp.dispatch(cx, word, out) {
-            Ok(()) => {}
-            Err(EmitError::Unresolved) => return Ok(()),
-            Err(EmitError::NoMemory) => return Err(NoMemory),
-        }
-    }
-    Ok(())
 }

@@ -2,8 +2,10 @@
 #![tactic(auto)]
 
 mod arrived;
+mod clients;
 pub mod config;
 mod emitter;
+pub mod handle_error;
 mod hops;
 pub mod host;
 pub mod laws;
@@ -15,6 +17,7 @@ pub mod run_script;
 pub mod watcher;
 
 pub use config::{HostConfig, HostConfigError, HostValues};
+pub use handle_error::HandleError;
 pub use host::{Host, no_queries};
 pub use host_model::{EventWords, Neighbor, Outcome, QueryLine};
 pub use report::{Kind, LineList, Mark, Report, Row, Sent, SentList};

@@ -1,5 +1,5 @@
 //! A whole run: a script in, a capture and a report out.
-ghost use Rattle.std.specs.Prelude.{◌≡◌, ℕ, ◌+◌, ◌*◌, ◌<◌, ◌≤◌, ◌⊎◌, ℤ, List, [], length, None, IfErr, IfOk, IfSome, IfNone, OnOk};
+ghost use Rattle.std.specs.Prelude.{◌≡◌, ℕ, ◌+◌, ◌*◌, ◌<◌, ◌≤◌, ◌⊎◌, ℤ, List, [], length, Some, None, IfErr, IfOk, IfSome, IfNone, OnOk};
 ghost use Rattle.std.specs.Result.{IsErrOf};
 ghost use Rattle.wire_base.specs.Causes.{IsRisen};
 ghost use Rattle.phy_layers.specs.Sink.{Took};
@@ -9,6 +9,7 @@ ghost use Rattle.host_model.specs.Script.{IsArrival};
 ghost use Rattle.net_host.specs.Captured.{arrived_record, sent_records};
 ghost use Rattle.net_host.specs.Report.{AreCapturable};
 ghost use Rattle.net_host.specs.Handling.{CanHandle};
+ghost use Rattle.net_host.specs.Moments.{IsFrom};
 ghost use Rattle.net_host.specs.Neighbors.{pair_count, place_count};
 ghost use Rattle.net_host.specs.Polling.{IsReady};
 ghost use Rattle.dns_client.specs.Client.{client_of};
@@ -150,6 +151,7 @@ fn take_event<C: PcapSink>(
 ) -> Result<(), RunError>
     requires can { CanHandle host.old }
     requires time { IsCapturable at }
+    requires order { IsFrom host.old.last at }
     requires arrival { IsArrival (arrival_of event) }
     ensures ok { OnOk result (TakesEvent at event.entry words
         (standing host.old (C.bytes capture.old) report.old)
@@ -165,6 +167,7 @@ fn take_event<C: PcapSink>(
     ensures quiet { (IsErrOf result RunError.Sink → ⊥) → C.faults capture.new ≡ C.faults capture.old }
     ensures later { C.faults capture.old ≤ C.faults capture.new }
     ensures ready { OnOk result (IsReady host.new.dhcp host.new.ip_mtu) }
+    ensures last { OnOk result (host.new.last ≡ Some at) }
     ensures places { OnOk result (place_count host.new.out.neighbors ≡ place_count host.old.out.neighbors) }
     ensures few { OnOk result (pair_count host.new.out.neighbors ≤ pair_count host.old.out.neighbors + 1) }
     ensures lent { OnOk result (AreLent (client_of host.new.dns)) }

@@ -5,8 +5,8 @@ ghost use Rattle.host_model.specs.Anchor.{anchor_before};
 ghost use Rattle.host_model.specs.Lease.{leased_under};
 ghost use Rattle.uses.specs.Leasing.{leasing};
 
-use net_host::{EventWords, Host, HostConfig, ScriptEvent, no_queries};
-use net_wire::{Instant, Ipv4Cidr, NoMemory};
+use net_host::{EventWords, HandleError, Host, HostConfig, ScriptEvent, no_queries};
+use net_wire::{Instant, Ipv4Cidr};
 use std::alloc::Global;
 
 /// The address that is leased behind a tick, an offer and an acknowledgement, which come at one instant.
@@ -17,7 +17,7 @@ pub fn lease_behind(
     words: EventWords,
     offer: &[u8],
     acknowledgement: &[u8],
-) -> Result<Option<Ipv4Cidr>, NoMemory>
+) -> Result<Option<Ipv4Cidr>, HandleError>
     requires time { IsCapturable at }
     requires offer { length offer.now < 2 ^ 16 }
     requires acknowledgement { length acknowledgement.now < 2 ^ 16 }

@@ -1,15 +1,18 @@
 -- The events so far stand, whatever comes of the next one.
-use Rattle.std.proofs.Common.{◌≡◌, length, ap, sym, subst, ◌∙◌, refl, arith, ⊎_elim, Err, ◌*◌, ◌+◌, ◌≤◌}
+use Rattle.std.proofs.Common.{◌≡◌, pos, length, ap, sym, subst, ◌∙◌, refl, arith, ⊎_elim, Err, ◌*◌, ◌+◌, ◌≤◌}
 use Rattle.std.proofs.lemmas.Result.{err_from_is_err_and}
+use Rattle.phy_layers.specs.PcapBytes.{epoch_micros}
 use Rattle.host_model.specs.Chronicle.{words_at}
 use Rattle.net_host.specs.declared.run_script.RunError.{RunError}
 use Rattle.net_host.specs.declared.run_script.RunError.TheVariants.{Words, Sink, NoMemory}
+use Rattle.net_host.specs.Moments.{IsFrom}
 use Rattle.net_host.specs.Outside.{outside_of}
 use Rattle.script_reader.specs.ReaderState.{ReaderState}
 use Rattle.net_host.specs.Run.{task_over, Leaves}
 use Rattle.net_host.specs.Taking.{standing}
 use Rattle.net_host.specs.Told.{told_by}
 use Rattle.net_host.proofs.CompleteLemmas.{completes}
+use Rattle.net_host.proofs.PollingLemmas.{from_later}
 use Rattle.net_host.proofs.ProgressLemmas.{starts, goes_on, ran_out}
 use Rattle.net_host.proofs.LinkLemmas.{met_event}
 use Rattle.net_host.proofs.RefusedLemmas.{nothing_run, header_leaves, row_leaves, event_leaves}
@@ -57,6 +60,7 @@ loop-count-init g c =
       goes_on = refl;
       limit = tt;
       ready = c.new-host.ensures.can.ready;
+      order = rw c.new-host.ensures.last tt;
       places = c.new-host.ensures.places ∙ ap length c.as_mut_slice.ensures.value ∙ c.in_ok-places.ensures;
       few = omega (arith, c.new-host.ensures.few);
       lent = c.new-host.ensures.can.lent;
@@ -142,6 +146,14 @@ take_event-taken-requires-clause-can g c =
       room = omega (arith, now.invariant.few, now.invariant.places, now.invariant.counted, meets.gives.within);
     }
 
+pub take_event-taken-requires-clause-order : goal.take_event-taken-requires-clause-order
+take_event-taken-requires-clause-order g c =
+    let now = c.loop-count in
+    let read = rw c.in-Some.is at c.in_ok-head.ensures.found in
+    let micros : epoch_micros c.event-at.result.0 ≡ c.pass-met.result.micros = ap epoch_micros c.event-at.ensures.time in
+    from_later now.host.last (pos now.reader.last) c.event-at.result.0 now.invariant.order
+    (omega (arith, micros, c.pass-met.ensures.time, read.next.not_before))
+
 pub returns-in_err-taken-clause-leaves : goal.returns-in_err-taken-clause-leaves
 returns-in_err-taken-clause-leaves g c =
     let refused = err_from_is_err_and c.from_residual-in_err-taken.result c.from_residual-in_err-taken.ensures.1 in
@@ -195,6 +207,7 @@ loop-count-preserved g c =
     let word = found.0 ∙ ap (words_at task.words) (sym now.invariant.counted) in
     let read = rw c.in-Some.is at c.in_ok-head.ensures.found in
     let stays = c.pass-met.ensures.stays in
+    let micros : epoch_micros c.event-at.result.0 ≡ c.pass-met.result.micros = ap epoch_micros c.event-at.ensures.time in
     let more = ap (λ (s : ReaderState). s.events) stays ∙ ap (λ (s : ReaderState). s.events) read.moved in
     let added = adds_at_most_one c.event-at.result.0 c.event-at.result.1 c.in-Some-words_at.drawn
     (standing now.host (g.C.ByteSink.bytes now.capture) now.report)
@@ -214,6 +227,8 @@ loop-count-preserved g c =
       goes_on = ap (λ (s : ReaderState). s.is_through) stays ∙ ap (λ (s : ReaderState). s.is_through) read.moved;
       limit = rw (stays, read.moved) refl;
       ready = (rw c.in_ok-taken.was at c.take_event-taken.ensures.ready);
+      order = subst (λ last. IsFrom last (pos c.pass-met.new.self.last)) (sym (rw c.in_ok-taken.was at c.take_event-taken.ensures.last))
+          (omega (arith, micros, c.pass-met.ensures.time, ap (λ (s : ReaderState). s.last) stays, ap (λ (s : ReaderState). s.last) read.moved));
       places = (rw c.in_ok-taken.was at c.take_event-taken.ensures.places) ∙ now.invariant.places;
       few = omega (arith, (rw c.in_ok-taken.was at c.take_event-taken.ensures.few), now.invariant.few);
       lent = (rw c.in_ok-taken.was at c.take_event-taken.ensures.lent);

@@ -1,6 +1,7 @@
 -- The events so far were read and answered.
-use Rattle.std.proofs.Common.{◌≡◌, ◌≤◌, false, IfSome}
+use Rattle.std.proofs.Common.{◌≡◌, ◌≤◌, pos, false, IfSome}
 use Rattle.dns_client.specs.Client.{client_of}
+use Rattle.net_host.specs.Moments.{IsFrom}
 use Rattle.net_host.specs.Neighbors.{pair_count, place_count}
 use Rattle.net_host.specs.Outside.{outside_of, IsQuiet}
 use Rattle.net_host.specs.Polling.{IsReady}
@@ -25,6 +26,7 @@ invariant-loop-count g l =
       goes_on : l.reader.is_through ≡ false;
       limit : IfSome l.reader.max_events (λ max. max ≡ l.max_events);
       ready : IsReady l.host.dhcp l.host.ip_mtu;
+      order : IsFrom l.host.last (pos l.reader.last);
       places : place_count l.host.out.neighbors ≡ l.max_events;
       few : pair_count l.host.out.neighbors ≤ l.count;
       lent : AreLent (client_of l.host.dns);

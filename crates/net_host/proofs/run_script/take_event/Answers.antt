@@ -8,8 +8,20 @@ use Rattle.net_host.specs.Captured.{arrived_record, sent_records}
 use Rattle.script_reader.specs.Reading.{arrival_of}
 use Rattle.net_host.specs.Report.{new_row}
 use Rattle.net_host.specs.Rows.{kind_of}
+use Rattle.host_model.specs.Neighbor.{told_to}
+use Rattle.net_host.proofs.CrowdedLemmas.{room_place}
 use Rattle.net_host.proofs.PlacingLemmas.{place_row}
 use Rattle.net_host.proofs.run_script.take_event.Goals as goal
+
+pub answer-requires-clause-can : goal.answer-requires-clause-can
+answer-requires-clause-can g c = record {
+  ready = c.requires.can.ready;
+  lent = c.requires.can.lent;
+  holds = c.requires.can.holds;
+  few = c.requires.can.few;
+  place = room_place (told_to c.args.host.now.out.hardware (arrival_of c.args.event)) (epoch_micros c.args.at) c.args.host.now.out.neighbors c.requires.can.room;
+  order = c.requires.order;
+}
 
 pub returns-in_err-capture_arrived-clause-sink : goal.returns-in_err-capture_arrived-clause-sink
 returns-in_err-capture_arrived-clause-sink g c = λ is. inl (record {

@@ -24,6 +24,7 @@ use Rattle.net_host.specs.QueryStanding.{StandAs}
 use Rattle.net_host.specs.Report.{AreCapturable}
 use Rattle.script_reader.specs.Reading.{arrival_of, event_at}
 use Rattle.net_host.proofs.ArrivedLemmas.{arrival_ready}
+use Rattle.net_host.proofs.CrowdedLemmas.{since_from}
 use Rattle.net_host.proofs.EventLemmas.{leased}
 use Rattle.net_host.proofs.KeptLemmas.{told_places, told_few}
 use Rattle.net_host.proofs.OverLemmas.{over, refused_first, same_line, none_some}
@@ -53,7 +54,7 @@ returns-clause-value c = λ settings before can agrees.
     let one = leased settings before event c.args.words cx old c.begin.new.self heard.out c.poll_dhcp.new.out c.ask.new.self
     heard.dhcp c.poll_dhcp.new.dhcp can.retry
     (record { now = at_is; hardware = begun_hardware; ip_mtu = agrees.ip_mtu })
-    (in_range c.args.at c.requires.time) agrees
+    (in_range c.args.at c.requires.time) agrees (since_from before old.last c.args.at agrees.last c.requires.can.order)
     (rw c.epoch_micros.ensures at c.begin.ensures) hears.out hears.dhcp hears.short
     c.in_ok-poll_dhcp.ensures.value (rw c.refused_hop-asked.ensures at c.in_ok-ask.ensures.value) in
     let servers = servers_before settings before in

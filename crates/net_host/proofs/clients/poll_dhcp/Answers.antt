@@ -3,7 +3,7 @@ use Rattle.net_host.specs.Emitter.{TakesMessage, RefusesMessage}
 use Rattle.net_host.specs.Polling.{IsQuiet, GoesOn, Waits}
 use Rattle.net_host.proofs.PollingLemmas.{before_last, le_of_test, lt_of_test}
 use Rattle.net_host.proofs.ReadyLemmas.{dispatch_ready, dispatch_fewer}
-use Rattle.net_host.proofs.host.poll_dhcp.Goals as goal
+use Rattle.net_host.proofs.clients.poll_dhcp.Goals as goal
 
 pub loop-dhcp-preserved : goal.loop-dhcp-preserved
 loop-dhcp-preserved c = record {

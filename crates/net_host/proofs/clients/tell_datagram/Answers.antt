@@ -5,7 +5,7 @@ use Rattle.dns_client.specs.Client.{client_of}
 use Rattle.host_model.specs.Queries.{hears_datagram}
 use Rattle.net_host.specs.QueryStanding.{StandAs}
 use Rattle.net_host.proofs.QueryHeardLemmas.{told_other}
-use Rattle.net_host.proofs.host.tell_datagram.Goals as goal
+use Rattle.net_host.proofs.clients.tell_datagram.Goals as goal
 
 pub returns-else-is_for_client-clause-queries : goal.returns-else-is_for_client-clause-queries
 returns-else-is_for_client-clause-queries c = λ settings servers slots numbers same stand.

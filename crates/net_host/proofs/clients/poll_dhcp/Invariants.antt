@@ -3,7 +3,7 @@ use Rattle.dhcp_client.specs.Client.{Client}
 use Rattle.dhcp_client.specs.Ending.{calls_left}
 use Rattle.net_host.specs.declared.emitter.Emitter.{Emitter}
 use Rattle.net_host.specs.Polling.{Polled, IsReady}
-use Rattle.net_host.proofs.host.poll_dhcp.Given as goal
+use Rattle.net_host.proofs.clients.poll_dhcp.Given as goal
 
 abbrev pub invariant-loop-dhcp : goal.invariant-loop-dhcp
 invariant-loop-dhcp l = record {
