@@ -8,4 +8,5 @@ pub mod ProgressLemmas
 pub mod ReadingLemmas
 pub mod OneFileLemmas
 pub mod WrittenLemmas
+pub mod SeenLemmas
 pub mod TextLemmas

@@ -1,16 +1,15 @@
 -- What a row says of the bytes of a frame: all of it is read off the one layout of the frame from Ethernet on.
 use Rattle.std.specs.Prelude.{◌≡◌, ℕ, ◌<◌, ◌≤◌, ◌↔◌, IsTrue, Bool, true, false, List, length, drop, Option}
-use Rattle.std.specs.List.{AllByRecursion}
 use Rattle.wire_base.specs.Bytes.{be16_at}
 use Rattle.ether_link.specs.Layout.{IsLayoutFrom}
 use Rattle.ether_link.specs.declared.layout.PartKind.TheVariants.{Ethernet2}
 use Rattle.ether_link.specs.declared.layout.Place.{Place}
 use Rattle.ether_link.specs.declared.layout.Stop.{Stop}
 use Rattle.ether_link.specs.declared.len_source.LenSource.TheVariants.{Slice}
-use Rattle.ether_ip.specs.Held.{is_extension}
+use Rattle.ether_ip.specs.Held.{no_extensions}
 use Rattle.ether_ip.specs.PacketGrammar.{packet_grammar}
 use Rattle.ether_ip.specs.declared.err.packet.SliceError.{SliceError}
-use Rattle.ether_lax.specs.Agreement.{Agree, FindsPlaces}
+use Rattle.ether_lax.specs.Agreement.{Agree, AreFree, FindsPlaces}
 use Rattle.ether_lax.specs.Found.{parts_of}
 use Rattle.ether_lax.specs.Headers.{HeaderParts, headers_of}
 use Rattle.ether_lax.specs.Notes.{stop_layer}
@@ -27,11 +26,7 @@ abbrev pub IsLayoutOf : List ℕ → List Place → Option (Stop SliceError) →
 IsLayoutOf frame places stop =
     IsLayoutFrom packet_grammar frame (begins_with Ethernet2) 0 (length frame) places stop
 
--- no part is an extension header of IP
-abbrev pub ArePlain : List Place → Type 0
-ArePlain places = AllByRecursion (λ place. is_extension place.kind ≡ false) places
-
--- the parts, the authentication headers and the layer that stopped, of a layout
+-- the parts, the headers of IPsec and the layer that stopped, of a layout
 pub record HasLayers (frame : List ℕ) (layers : Layers) : Type 0 where
   pub places : List Place
   pub stop : Option (Stop SliceError)
@@ -39,7 +34,8 @@ pub record HasLayers (frame : List ℕ) (layers : Layers) : Type 0 where
   pub parts_are : layers.parts ≡ parts_at frame places
   pub ah_are : layers.ah ≡ ah_at frame places
   pub stop_is : layers.stop ≡ stop_layer stop
-  pub plain_are : layers.plain ≡ true → ArePlain places
+  pub esp_is : layers.esp ≡ esp_by stop (net_of frame (parts_of frame places))
+  pub free_are : layers.free ≡ true → AreFree frame no_extensions places stop
 
 -- what the Ethernet header of a frame carries
 abbrev pub carried_by_frame : List ℕ → Carried

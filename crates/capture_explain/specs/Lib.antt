@@ -11,4 +11,5 @@ pub mod PrintExamples
 pub mod PrintText
 pub mod Reading
 pub mod Rows
+pub mod Seen
 pub mod Text

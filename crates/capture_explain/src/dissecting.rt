@@ -1,19 +1,15 @@
 //! The dissection of one frame.
-ghost use Rattle.std.specs.Prelude.{◌≡◌, ◌≤◌, length, IfOk, option_map};
+ghost use Rattle.std.specs.Prelude.{◌≡◌, ◌<◌, ◌≤◌, true, length, IfOk};
 ghost use Rattle.ether_link.specs.declared.layout.PartKind.TheVariants.{Ethernet2};
 ghost use Rattle.ether_lax.specs.Sliced.{HoldsLayout};
 ghost use Rattle.ether_lax.specs.Steps.{begins_with};
-ghost use Rattle.ether_lax.specs.Nets.{net_in, payload_of_ip};
-ghost use Rattle.capture_explain.specs.Comparing.{AgreesWithHeaders, IsCompared};
+ghost use Rattle.capture_explain.specs.Comparing.{AgreesWithHeaders, AgreesInFull, AreCompared};
 ghost use Rattle.capture_explain.specs.Dissected.{IsDissection};
-ghost use Rattle.capture_explain.specs.Parts.{esp_by, esp_in};
 
 use crate::layers::layers_of;
 use crate::{AhList, EspPart, PartList};
-use ether_lax::{LaxIpPayloadSlice, LaxPacketHeaders, LaxSlicedPacket, agrees};
-use ether_link::IpNumber;
+use ether_lax::{LaxPacketHeaders, LaxSlicedPacket, agrees};
 use ether_link::err::Layer;
-use ipsec_wire::esp;
 use net_wire::NoMemory;
 use std::alloc::Global;
 
@@ -38,37 +34,33 @@ pub fn dissect(alloc: Global, frame: &[u8]) -> Result<Dissection, NoMemory>
     ensures value { IfOk result (IsDissection frame.now) }
 {
     let layers = layers_of(alloc, frame)?;
-    let compared = compare(frame, layers.plain);
     Ok(Dissection {
         parts: layers.parts,
         stop: layers.stop,
-        agree: compared.agree,
+        agree: agree_on(frame, layers.free),
         ah: layers.ah,
-        esp: compared.esp,
+        esp: layers.esp,
     })
 }
 
-/// What the two dissectors say of a frame.
-#[derive(Clone, Copy, Debug)]
-struct Compared {
-    agree: bool,
-    esp: Option<EspPart>,
+/// Whether the two dissectors agree on a frame. Where each extension header of IP finds its place `free`, they do.
+fn agree_on(frame: &[u8], free: bool) -> bool
+    ensures { AreCompared frame.now free result }
+{
+    if free {
+        return true;
+    }
+    agree_in_full(frame)
 }
 
-/// Whether the two dissectors agree on a frame, and the security payload that both of them find or miss. A `plain`
-/// frame has no extension header of IP: then they do.
-fn compare(frame: &[u8], plain: bool) -> Compared
-    ensures { IsCompared frame.now plain result }
+/// Whether they do, by what they hold.
+fn agree_in_full(frame: &[u8]) -> bool
+    ensures short { length frame.now < 14 → result ≡ true }
+    ensures long { 14 ≤ length frame.now → AgreesInFull frame.now result }
 {
-    let Ok(packet) = LaxSlicedPacket::from_ethernet(frame) else {
-        return Compared {
-            agree: true,
-            esp: None,
-        };
-    };
-    Compared {
-        agree: plain || agrees_with_headers(frame, &packet),
-        esp: esp_of(&packet),
+    match LaxSlicedPacket::from_ethernet(frame) {
+        Ok(packet) => agrees_with_headers(frame, &packet),
+        Err(_) => true,
     }
 }
 
@@ -80,34 +72,5 @@ fn agrees_with_headers(frame: &[u8], packet: &LaxSlicedPacket<'_>) -> bool
     match LaxPacketHeaders::from_ethernet(frame) {
         Ok(headers) => agrees(packet, &headers),
         Err(_) => true,
-    }
-}
-
-/// The security payload that a packet carries.
-fn esp_of(packet: &LaxSlicedPacket<'_>) -> Option<EspPart>
-    ensures { result ≡ esp_by packet.now.stop_err (option_map net_in packet.now.net) }
-{
-    if packet.stop_err.is_some() {
-        return None;
-    }
-    match packet.ip_payload() {
-        Some(payload) => esp_in(payload),
-        None => None,
-    }
-}
-
-/// The security payload that the payload of an IP packet is.
-fn esp_in(payload: &LaxIpPayloadSlice<'_>) -> Option<EspPart>
-    ensures { result ≡ esp_in (payload_of_ip payload.now) }
-{
-    if payload.fragmented || payload.ip_number != IpNumber::ENCAPSULATING_SECURITY_PAYLOAD {
-        return None;
-    }
-    match esp::Packet::new_checked(payload.payload) {
-        Ok(packet) => Some(EspPart {
-            spi: packet.security_parameters_index(),
-            sequence: packet.sequence_number(),
-        }),
-        Err(_) => None,
     }
 }

@@ -1,12 +1,12 @@
 //! The parts of a frame, one inside the window of the other.
 ghost use Rattle.std.specs.Prelude.{◌≡◌, ◌≤◌, [], ◌∷◌, ◌++◌, length, IfOk, OnOk};
 ghost use Rattle.ether_link.specs.declared.layout.PartKind.TheVariants as layout;
-ghost use Rattle.ether_ip.specs.Held.{is_extension};
 ghost use Rattle.ether_lax.specs.Steps.{begins_with};
 ghost use Rattle.capture_explain.specs.Parts.{kind_of, part_with, ah_part, ah_in};
 ghost use Rattle.capture_explain.specs.Dissected.{HasLayers};
 
-use crate::{AhList, AhPart, Part, PartKind, PartList};
+use crate::seen::{Seen, esp_at};
+use crate::{AhList, AhPart, EspPart, Part, PartKind, PartList};
 use ether_ip::{IpAuthHeaderSlice, Ipv6ExtensionSlice, TransportSlice};
 use ether_lax::{Part as PacketPart, next_layer};
 use ether_link::err::Layer;
@@ -14,14 +14,15 @@ use ether_link::{PartKind as LayoutKind, Place, Turn};
 use net_wire::NoMemory;
 use std::alloc::Global;
 
-/// The parts of a frame, its authentication headers, and the layer that stopped the dissection.
+/// The parts of a frame, its headers of IPsec, and the layer that stopped the dissection.
 #[derive(Debug, Drop)]
 pub(crate) struct Layers {
     pub parts: PartList,
     pub ah: AhList,
+    pub esp: Option<EspPart>,
     pub stop: Option<Layer>,
-    /// No part is an extension header of IP.
-    pub plain: bool,
+    /// Each extension header of IP, and the refused one, found its place free.
+    pub free: bool,
 }
 
 /// The layers of a frame that begins with an Ethernet header.
@@ -31,32 +32,33 @@ pub(crate) fn layers_of(alloc: Global, frame: &[u8]) -> Result<Layers, NoMemory>
 {
     let (mut parts, mut ah) = (PartList::new(alloc), AhList::new(alloc));
     let (mut turn, mut start, mut end) = (ethernet(), 0, frame.len());
-    let mut plain = true;
+    let mut seen = Seen::new();
     while let Some(now) = turn {
         match next_layer(frame, now, start, end) {
             Err(_) => {
-                let stop = Some(now.kind.layer());
                 return Ok(Layers {
                     parts,
                     ah,
-                    stop,
-                    plain,
+                    esp: None,
+                    stop: Some(now.kind.layer()),
+                    free: seen.is_free(now.kind),
                 });
             }
             Ok(layer) => {
                 add_part(&mut parts, &mut ah, layer.place, &layer.part)?;
-                plain = plain && !is_extension(layer.place.kind);
                 turn = layer.next;
                 start = layer.place.body;
                 end = layer.place.end;
+                seen.put(layer.place, layer.part);
             }
         }
     }
     Ok(Layers {
         parts,
         ah,
+        esp: esp_at(frame, seen.payload),
         stop: None,
-        plain,
+        free: seen.free,
     })
 }
 
@@ -69,22 +71,6 @@ fn ethernet() -> Option<Turn>
         link_exts: 0,
         fragmented: false,
     })
-}
-
-/// Whether a part is an extension header of IP.
-fn is_extension(kind: LayoutKind) -> bool
-    ensures { result ≡ is_extension kind }
-{
-    matches!(
-        kind,
-        LayoutKind::HopByHop
-            | LayoutKind::LateHopByHop
-            | LayoutKind::Route
-            | LayoutKind::DestinationOptions
-            | LayoutKind::Fragment
-            | LayoutKind::Ipv4Auth
-            | LayoutKind::Ipv6Auth
-    )
 }
 
 /// Lists a part, and its values where it is an authentication header.

@@ -12,6 +12,7 @@ mod layers;
 mod parts;
 mod printing;
 mod row_text;
+mod seen;
 pub mod text;
 
 pub use dissecting::{Dissection, dissect};

@@ -139,6 +139,15 @@ fn other_files_are_refused(rt: HostRuntime) -> Result<(), Fail> {
             "{at}"
         );
     }
+    // Whole headers: of a big-endian machine, and of times in nanoseconds.
+    let mut big_endian = HEADER;
+    big_endian[..8].copy_from_slice(&[0xa1, 0xb2, 0xc3, 0xd4, 0, 2, 0, 4]);
+    big_endian[16..].copy_from_slice(&[0, 4, 0, 0, 0, 0, 0, 1]);
+    let mut nanoseconds = HEADER;
+    nanoseconds[..4].copy_from_slice(&[0x4d, 0x3c, 0xb2, 0xa1]);
+    for header in [big_endian, nanoseconds] {
+        assert!(rt; answer(alloc, &header, 24, &[], 1)? == (Err(ExplainError::Header), 0));
+    }
     // A captured length that no entry has.
     let long = [0, 0, 0, 0, 0, 0, 0, 0, 1, 0, 4, 0, 1, 0, 4, 0];
     let file = file_of(alloc, &[&EMPTY, &long])?;

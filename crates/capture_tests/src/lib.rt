@@ -5,3 +5,5 @@
 mod captures;
 #[cfg(test)]
 mod files;
+#[cfg(test)]
+mod kinds;

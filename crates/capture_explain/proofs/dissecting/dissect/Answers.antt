@@ -4,5 +4,5 @@ use Rattle.capture_explain.proofs.dissecting.dissect.Goals as goal
 
 pub returns : goal.returns
 returns c = record {
-  value = dissected c.args.frame.now c.in_ok-layers.layers c.compare-compared.result c.in_ok-layers.ensures c.compare-compared.ensures;
+  value = dissected c.args.frame.now c.in_ok-layers.layers c.agree_on.result c.in_ok-layers.ensures c.agree_on.ensures;
 }
