@@ -117,3 +117,49 @@ def served(values, events):
         lines.append(f"{place} {at // SECOND}.{at % SECOND:06} {said}")
         records += [(at, one) for one in (frame, sent) if one is not None]
     return lines, records
+
+
+def crowd():
+    """A range of 1,000 addresses that 1,000 clients fill with offers, which lapse; then others fill it with leases, and those lapse. The
+    values, the events, and for each event what is said and the address: `Server` looks through all answers for each one, which is too slow
+    for so many clients."""
+    values = Values(bytes.fromhex("020000000001"), bytes([10, 0, 0, 1]), bytes([10, 0, 1, 0]), 1000, 16, 600)
+    addresses, events, said = Server(values).range, [], []
+
+    def send(at, client, kind, options, address, word):
+        hardware = b"\2\7\0\0" + client.to_bytes(2, "big")
+        message = dhcp_message(kind, client, [(53, bytes([kind])), *options], hardware=hardware)
+        events.append((at, udp_frame((hardware, BROADCAST), (UNSPECIFIED, EVERYBODY), (68, 67), message)))
+        said.append((word, address))
+
+    def discover(at, client, address):
+        send(at, client, DISCOVER, [], address, "offer" if address else "full")
+
+    for place in range(1000):
+        discover(place, place, addresses[place])
+    discover(59_999_999, 1000, None)
+    # an offer lasts 60 seconds, and ends at their end
+    discover(60_000_000, 1000, addresses[0])
+    discover(60_000_000, 1001, None)
+    for place in range(1, 1000):
+        discover(60_001_000, 1000 + place, addresses[place])
+    for place in range(1000):
+        send(61_000_000 + place, 1000 + place, REQUEST, [(54, values.address), (50, addresses[place])], addresses[place], "ack")
+    discover(660_999_999, 0, None)
+    for place in range(999, -1, -1):
+        discover(661_001_000, place, addresses[999 - place])
+    discover(661_001_000, 2000, None)
+    return values, events, said
+
+
+def served_crowd():
+    """The same as of `served`."""
+    values, events, said = crowd()
+    server, lines, records = Server(values), [], []
+    for place, ((at, frame), (kind, address)) in enumerate(zip(events, said)):
+        word = "silent full" if kind == "full" else kind + " " + ".".join(map(str, address))
+        lines.append(f"{place} {at // SECOND}.{at % SECOND:06} {word}")
+        records.append((at, frame))
+        if kind != "full":
+            records.append((at, server.reply(request_of(frame, values.hardware), kind, address)))
+    return values, events, lines, records

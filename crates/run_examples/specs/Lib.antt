@@ -1,0 +1,5 @@
+pub mod MadeEvents
+pub mod OneTick
+pub mod QueryFrames
+pub mod ReportLines
+pub mod ScriptBytes
