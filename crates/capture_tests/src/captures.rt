@@ -119,6 +119,13 @@ fn one_byte_behind_the_last_frame_is_too_much(rt: HostRuntime) -> Result<(), Fai
     Ok(())
 }
 
+/// The header of a file of a big-endian machine, and of one with times in nanoseconds.
+const BIG_ENDIAN: [u8; 24] =
+    *b"\xa1\xb2\xc3\xd4\x00\x02\x00\x04\x00\x00\x00\x00\x00\x00\x00\x00\x00\x04\x00\x00\x00\x00\x00\x01";
+
+const NANOSECONDS: [u8; 24] =
+    *b"\x4d\x3c\xb2\xa1\x02\x00\x04\x00\x00\x00\x00\x00\x00\x00\x00\x00\x00\x00\x04\x00\x01\x00\x00\x00";
+
 #[test]
 fn other_files_are_refused(rt: HostRuntime) -> Result<(), Fail> {
     let alloc = rt.alloc();
@@ -139,13 +146,7 @@ fn other_files_are_refused(rt: HostRuntime) -> Result<(), Fail> {
             "{at}"
         );
     }
-    // Whole headers: of a big-endian machine, and of times in nanoseconds.
-    let mut big_endian = HEADER;
-    big_endian[..8].copy_from_slice(&[0xa1, 0xb2, 0xc3, 0xd4, 0, 2, 0, 4]);
-    big_endian[16..].copy_from_slice(&[0, 4, 0, 0, 0, 0, 0, 1]);
-    let mut nanoseconds = HEADER;
-    nanoseconds[..4].copy_from_slice(&[0x4d, 0x3c, 0xb2, 0xa1]);
-    for header in [big_endian, nanoseconds] {
+    for header in [BIG_ENDIAN, NANOSECONDS] {
         assert!(rt; answer(alloc, &header, 24, &[], 1)? == (Err(ExplainError::Header), 0));
     }
     // A captured length that no entry has.

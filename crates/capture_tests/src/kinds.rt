@@ -1,9 +1,8 @@
 //! Each kind of part with its word and its places.
-use crate::files::HEADER;
+use crate::files::file_of;
 use capture_explain::{Explanation, explain, explain_text};
 use phy_layers::SureSink;
 use script_source::SureSource;
-use std::alloc::Global;
 use std::test::Fail;
 
 const ADDRESSES: [u8; 12] = [2, 0, 0, 0, 0, 1, 2, 0, 0, 0, 0, 2];
@@ -37,24 +36,32 @@ const FAR: [u8; 32] = [
     0, 0, 0, 2,
 ];
 
-/// Frames in pieces, and the line of each behind its number and time.
+/// Entries at second 9 in pieces, their four numbers first, and the line of each.
 const KINDS: [(&[&[u8]], &str); 8] = [
     (
-        &[&ADDRESSES, &[0x81, 0], &[0, 5, 8, 6], &ARP],
-        "46/46 ethernet@0-14-46,vlan@14-18-46,arp@18-46-46 stop=none agree=1",
+        &[
+            &[9, 0, 0, 0, 0, 0, 0, 0, 46, 0, 0, 0, 46, 0, 0, 0],
+            &ADDRESSES,
+            &[0x81, 0],
+            &[0, 5, 8, 6],
+            &ARP,
+        ],
+        "0 9.000000 frame 46/46 ethernet@0-14-46,vlan@14-18-46,arp@18-46-46 stop=none agree=1\n",
     ),
     (
         &[
+            &[9, 0, 0, 0, 0, 0, 0, 0, 62, 0, 0, 0, 62, 0, 0, 0],
             &ADDRESSES,
             &[0x88, 0xe5],
             &[0, 0, 0, 0, 0, 1, 8, 0],
             &OF_TCP,
             &TCP,
         ],
-        "62/62 ethernet@0-14-62,macsec@14-22-62,ipv4@22-42-62,tcp@42-62-62 stop=none agree=1",
+        "0 9.000000 frame 62/62 ethernet@0-14-62,macsec@14-22-62,ipv4@22-42-62,tcp@42-62-62 stop=none agree=1\n",
     ),
     (
         &[
+            &[9, 0, 0, 0, 0, 0, 0, 0, 94, 0, 0, 0, 94, 0, 0, 0],
             &ADDRESSES,
             &[0x86, 0xdd],
             &[0x60, 0, 0, 0, 0, 40, 0, 64],
@@ -65,27 +72,34 @@ const KINDS: [(&[&[u8]], &str); 8] = [
             &[17, 0, 0, 0, 0, 0, 0, 7],
             &UDP,
         ],
-        "94/94 ethernet@0-14-94,ipv6@14-54-94,hop-by-hop@54-62-94,dest-options@62-70-94,\
-         route@70-78-94,frag@78-86-94,udp@86-94-94 stop=none agree=1",
+        "0 9.000000 frame 94/94 ethernet@0-14-94,ipv6@14-54-94,hop-by-hop@54-62-94,dest-options@62-70-94,route@70-78-94,frag@78-86-94,udp@86-94-94 stop=none agree=1\n",
     ),
     (
         &[
+            &[9, 0, 0, 0, 0, 0, 0, 0, 62, 0, 0, 0, 62, 0, 0, 0],
             &ADDRESSES,
             &[0x86, 0xdd],
             &[0x60, 0, 0, 0, 0, 8, 58, 64],
             &FAR,
             &ECHO6,
         ],
-        "62/62 ethernet@0-14-62,ipv6@14-54-62,icmpv6@54-62-62 stop=none agree=1",
+        "0 9.000000 frame 62/62 ethernet@0-14-62,ipv6@14-54-62,icmpv6@54-62-62 stop=none agree=1\n",
     ),
     (
-        &[&ADDRESSES, &[8, 0], &OF_ICMP, &ECHO],
-        "42/42 ethernet@0-14-42,ipv4@14-34-42,icmpv4@34-42-42 stop=none agree=1",
+        &[
+            &[9, 0, 0, 0, 0, 0, 0, 0, 42, 0, 0, 0, 42, 0, 0, 0],
+            &ADDRESSES,
+            &[8, 0],
+            &OF_ICMP,
+            &ECHO,
+        ],
+        "0 9.000000 frame 42/42 ethernet@0-14-42,ipv4@14-34-42,icmpv4@34-42-42 stop=none agree=1\n",
     ),
     // A second fragment header, and a second header of destination options without a routing header: headers as
     // structs end in front of it.
     (
         &[
+            &[9, 0, 0, 0, 0, 0, 0, 0, 78, 0, 0, 0, 78, 0, 0, 0],
             &ADDRESSES,
             &[0x86, 0xdd],
             &[0x60, 0, 0, 0, 0, 24, 44, 64],
@@ -94,11 +108,11 @@ const KINDS: [(&[&[u8]], &str); 8] = [
             &[17, 0, 0, 0, 0, 0, 0, 7],
             &UDP,
         ],
-        "78/78 ethernet@0-14-78,ipv6@14-54-78,frag@54-62-78,frag@62-70-78,\
-         udp@70-78-78 stop=none agree=0",
+        "0 9.000000 frame 78/78 ethernet@0-14-78,ipv6@14-54-78,frag@54-62-78,frag@62-70-78,udp@70-78-78 stop=none agree=0\n",
     ),
     (
         &[
+            &[9, 0, 0, 0, 0, 0, 0, 0, 78, 0, 0, 0, 78, 0, 0, 0],
             &ADDRESSES,
             &[0x86, 0xdd],
             &[0x60, 0, 0, 0, 0, 24, 60, 64],
@@ -107,12 +121,12 @@ const KINDS: [(&[&[u8]], &str); 8] = [
             &[17, 0, 1, 4, 0, 0, 0, 0],
             &UDP,
         ],
-        "78/78 ethernet@0-14-78,ipv6@14-54-78,dest-options@54-62-78,dest-options@62-70-78,\
-         udp@70-78-78 stop=none agree=0",
+        "0 9.000000 frame 78/78 ethernet@0-14-78,ipv6@14-54-78,dest-options@54-62-78,dest-options@62-70-78,udp@70-78-78 stop=none agree=0\n",
     ),
     // One on each side of a routing header.
     (
         &[
+            &[9, 0, 0, 0, 0, 0, 0, 0, 86, 0, 0, 0, 86, 0, 0, 0],
             &ADDRESSES,
             &[0x86, 0xdd],
             &[0x60, 0, 0, 0, 0, 32, 60, 64],
@@ -122,40 +136,20 @@ const KINDS: [(&[&[u8]], &str); 8] = [
             &[17, 0, 1, 4, 0, 0, 0, 0],
             &UDP,
         ],
-        "86/86 ethernet@0-14-86,ipv6@14-54-86,dest-options@54-62-86,route@62-70-86,\
-         dest-options@70-78-86,udp@78-86-86 stop=none agree=1",
+        "0 9.000000 frame 86/86 ethernet@0-14-86,ipv6@14-54-86,dest-options@54-62-86,route@62-70-86,dest-options@70-78-86,udp@78-86-86 stop=none agree=1\n",
     ),
 ];
-
-/// Adds an entry at second 9 of the frame that some pieces make up.
-fn add_entry(alloc: Global, file: &mut Vec<u8>, pieces: &[&[u8]]) -> Result<(), Fail> {
-    let mut frame = Vec::new(alloc);
-    for piece in pieces {
-        frame.extend_from_slice(piece)?;
-    }
-    let len = (frame.len() as u32).to_le_bytes();
-    file.extend_from_slice(&[9, 0, 0, 0, 0, 0, 0, 0])?;
-    file.extend_from_slice(&len)?;
-    file.extend_from_slice(&len)?;
-    file.extend_from_slice(frame.as_slice())?;
-    Ok(())
-}
 
 #[test]
 fn each_kind_of_part_has_its_word_and_its_places(rt: HostRuntime) -> Result<(), Fail> {
     let alloc = rt.alloc();
     for (pieces, line) in KINDS {
-        let mut file = Vec::from_slice(alloc, &HEADER)?;
-        add_entry(alloc, &mut file, pieces)?;
+        let mut source = SureSource::new(file_of(alloc, pieces)?);
         let mut explanation = Explanation::new(alloc);
-        assert!(rt; explain(alloc, &mut SureSource::new(file), 1, &mut explanation).is_ok());
+        assert!(rt; explain(alloc, &mut source, 1, &mut explanation).is_ok());
         let mut sink = SureSink::new(alloc);
-        let written = explain_text(&explanation, &mut sink);
-        let want = format!(in alloc; "0 9.000000 frame {line}\n")?;
-        assert!(rt;
-            written.is_ok() && sink.bytes() == want.as_bytes(),
-            "{line}"
-        );
+        assert!(rt; explain_text(&explanation, &mut sink).is_ok());
+        assert!(rt; sink.bytes() == line.as_bytes(), "{line}");
     }
     Ok(())
 }
