@@ -49,6 +49,8 @@ mod runs;
 #[cfg(test)]
 mod served;
 #[cfg(test)]
+mod shown;
+#[cfg(test)]
 mod texts;
 #[cfg(test)]
 mod words;

@@ -5,7 +5,7 @@ use std::alloc::{AllocError, Global};
 use std::test::Fail;
 
 /// Words that name no command.
-const COMMANDS: [&[&str]; 53] = [
+const COMMANDS: [&[&str]; 61] = [
     &[],
     &["run"],
     &["run", "020202020202", "1"],
@@ -49,6 +49,14 @@ const COMMANDS: [&[&str]; 53] = [
     &["print"],
     &["print", "100001"],
     &["live", "print", "1"],
+    &["show"],
+    &["show", "0"],
+    &["show", "10001"],
+    &["show", "1", "1"],
+    &["live", "show", "1"],
+    &["frames"],
+    &["frames", "10001"],
+    &["live", "frames", "1"],
     &[
         "serve",
         "020000000001",
@@ -227,6 +235,8 @@ const USAGE: &[u8] = b"usage: run HW SEED MAX [mtu=N] [lease=N] [naks=ignore|obe
        print MAX
        disturb HW SEED MAX FSEED DROP CORRUPT
        serve HW ADDR FIRST COUNT PREFIX LEASE MAX
+       show MAX
+       frames MAX
        live COMMAND ...
        help
 ";

@@ -10,7 +10,7 @@ use Rattle.net_host.proofs.SettingsLemmas.{defaults_accepted}
 use Rattle.net_wire.specs.declared.address.EthernetAddress.{EthernetAddress}
 use Rattle.host_top.specs.declared.command.Asked.{Asked}
 use Rattle.host_top.specs.declared.command.Command.{Command}
-use Rattle.host_top.specs.declared.command.Command.TheVariants.{Run, Make, Explain, Print, Help, Disturb, Serve}
+use Rattle.host_top.specs.declared.command.Command.TheVariants.{Run, Make, Explain, Print, Help, Disturb, Serve, Show, Frames}
 use Rattle.host_top.specs.declared.command.Keyword.{Keyword}
 use Rattle.host_top.specs.declared.command.Keyword.TheVariants as keyword
 use Rattle.host_top.specs.declared.command.MakeCommand.{MakeCommand}
@@ -23,9 +23,11 @@ use Rattle.host_top.specs.Explain.{WritesCapture, IsReadable}
 use Rattle.host_top.specs.RunWords.{WritesRun, IsRunnable, settings_named}
 use Rattle.host_top.specs.MakeWords.{WritesMake, run_of_make}
 use Rattle.host_top.specs.Command.{IsKeyword, WritesAs, NameWork, NameLiveWork, CanBeLive, Names, AreNamed, command_asked, IsTaken, NamesOne, IsCommand}
-use Rattle.host_top.specs.HostMain.{Ask, AskForNoWork, AskOfCapture}
+use Rattle.host_top.specs.HostMain.{Ask, AskForNoWork, AskToRead}
 use Rattle.host_top.specs.Setting.{Sets}
 use Rattle.host_top.proofs.OneSettingLemmas.{sets_one}
+use Rattle.host_top.specs.declared.show_command.ShowCommand.{ShowCommand}
+use Rattle.host_top.specs.Show.{WritesShow, IsShowable}
 use Rattle.host_top.proofs.ServeLemmas.{servable, writes_one_serve}
 use Rattle.host_top.proofs.SettingWordLemmas.{mtu_in_range}
 
@@ -74,9 +76,11 @@ keyword_in word =
     (cond (is_word word (codes "print")) (Some keyword.Print)
     (cond (is_word word (codes "disturb")) (Some keyword.Disturb)
     (cond (is_word word (codes "serve")) (Some keyword.Serve)
+    (cond (is_word word (codes "show")) (Some keyword.Show)
+    (cond (is_word word (codes "frames")) (Some keyword.Frames)
     (cond (is_word word (codes "help")) (Some keyword.Help)
     (cond (is_word word (codes "--help")) (Some keyword.Help)
-    (cond (is_word word (codes "-h")) (Some keyword.Help) None))))))))
+    (cond (is_word word (codes "-h")) (Some keyword.Help) None))))))))))
 
 keyword_found : (word : List ℕ) (asked : Keyword) → IsKeyword word asked → keyword_in word ≡ Some asked
 keyword_found word keyword.Run is = ap keyword_in is
@@ -85,6 +89,8 @@ keyword_found word keyword.Explain is = ap keyword_in is
 keyword_found word keyword.Print is = ap keyword_in is
 keyword_found word keyword.Disturb is = ap keyword_in is
 keyword_found word keyword.Serve is = ap keyword_in is
+keyword_found word keyword.Show is = ap keyword_in is
+keyword_found word keyword.Frames is = ap keyword_in is
 keyword_found word keyword.Help (inl is) = ap keyword_in is
 keyword_found word keyword.Help (inr (inl is)) = ap keyword_in is
 keyword_found word keyword.Help (inr (inr is)) = ap keyword_in is
@@ -152,6 +158,15 @@ writes_one_capture words one other first second =
     let count : one.max_frames ≡ other.max_frames = cc (first.are, second.are, first.max.writes.value, second.max.writes.value) in
     ap capture_made count
 
+show_made : ℕ → ShowCommand
+show_made count = record { max_events = count }
+
+writes_one_show : (words : List (List ℕ)) (one other : ShowCommand) → WritesShow words one → WritesShow words other → one ≡ other
+unfolding show_made
+writes_one_show words one other first second =
+    let count : one.max_events ≡ other.max_events = cc (first.are, second.are, first.max.writes.value, second.max.writes.value) in
+    ap show_made count
+
 disturb_made : RunCommand → ℕ → ℕ → ℕ → DisturbCommand
 disturb_made run seed drop corrupt = record { run = run; fault_seed = seed; drop_chance = drop; corrupt_chance = corrupt }
 
@@ -183,6 +198,10 @@ writes_same keyword.Disturb words one other (a, is, first) (b, also, second) =
     is ∙ ap Disturb (writes_one_disturb words a b first second) ∙ sym also
 writes_same keyword.Serve words one other (a, is, first) (b, also, second) =
     is ∙ ap Serve (writes_one_serve words a b first second) ∙ sym also
+writes_same keyword.Show words one other (a, is, first) (b, also, second) =
+    is ∙ ap Show (writes_one_show words a b first second) ∙ sym also
+writes_same keyword.Frames words one other (a, is, first) (b, also, second) =
+    is ∙ ap Frames (writes_one_show words a b first second) ∙ sym also
 
 pub one_work : (words : List (List ℕ)) (one other : Command) → NameWork words one → NameWork words other → one ≡ other
 one_work words one other first second =
@@ -253,6 +272,9 @@ makeable words make writes = record { individual = refl; mtu = tt; some = writes
 readable : (words : List (List ℕ)) (capture : CaptureCommand) → WritesCapture words capture → IsReadable capture
 readable words capture writes = record { some = writes.max.some; limit = writes.max.limit }
 
+showable : (words : List (List ℕ)) (show : ShowCommand) → WritesShow words show → IsShowable show
+showable words show writes = record { limit = writes.max.limit }
+
 -- and so one over a bad link
 disturbable : (words : List (List ℕ)) (disturb : DisturbCommand) → WritesDisturb words disturb → IsDisturbable disturb
 disturbable words disturb writes = record {
@@ -274,6 +296,8 @@ written_command keyword.Print words command (capture, is, writes) = subst IsComm
 written_command keyword.Help words command (is, none) = subst IsCommand (sym is) tt
 written_command keyword.Disturb words command (disturb, is, writes) = subst IsCommand (sym is) (disturbable words disturb writes)
 written_command keyword.Serve words command (serve, is, writes) = subst IsCommand (sym is) (servable words serve writes)
+written_command keyword.Show words command (show, is, writes) = subst IsCommand (sym is) (showable words show writes)
+written_command keyword.Frames words command (frames, is, writes) = subst IsCommand (sym is) (showable words frames writes)
 
 work_command : (words : List (List ℕ)) (command : Command) → NameWork words command → IsCommand command
 work_command words command named = written_command named.keyword named.behind command named.writes
@@ -296,10 +320,10 @@ pub asked_by : (words : List (List ℕ)) (asked : Option Asked) → IfSome asked
 asked_by words None found refuses = refuses
 asked_by words (Some asked) found refuses = are_names words asked found
 
--- words that name a reading of a capture ask for that
-pub asked_of_capture : (words : List (List ℕ)) (asked : Option Command) (named : AskOfCapture words) → Ask words asked → asked ≡ Some named.0
-asked_of_capture words None named none = absurd (none (named.0, inl named.1))
-asked_of_capture words (Some command) named asks = ap Some (names_one words command named.0 asks (inl named.1))
+-- words that name a command that only reads ask for that
+pub asked_to_read : (words : List (List ℕ)) (asked : Option Command) (named : AskToRead words) → Ask words asked → asked ≡ Some named.0
+asked_to_read words None named none = absurd (none (named.0, inl named.1))
+asked_to_read words (Some command) named asks = ap Some (names_one words command named.0 asks (inl named.1))
 
 mtu_or_default : (value : Option ℕ) → IfSome value (λ bytes. (576 ≤ bytes) × (bytes ≤ 1500))
     → (576 ≤ unwrap_or value 1500) × (unwrap_or value 1500 ≤ 1500)

@@ -8,7 +8,7 @@ use Rattle.net_host.specs.QueryRows.{CountsQueries}
 use Rattle.net_host.specs.Run.{Task}
 use Rattle.net_host.proofs.CountedLemmas.{KeepsOrder, finished_counts, leaves_counts}
 use Rattle.host_top.specs.declared.command.Command.{Command}
-use Rattle.host_top.specs.declared.command.Command.TheVariants.{Run, Make, Explain, Print, Help, Disturb, Serve}
+use Rattle.host_top.specs.declared.command.Command.TheVariants.{Run, Make, Explain, Print, Help, Disturb, Serve, Show, Frames}
 use Rattle.host_top.specs.declared.ending.Ending.{Ending}
 use Rattle.host_top.specs.declared.ending.Ending.TheVariants.{Done, Refused, Script, Limit, Entry, FrameLimit, Read, Capture, NoMemory}
 use Rattle.host_top.specs.Disturb.{faults_named, task_disturbed}
@@ -43,6 +43,8 @@ command_counts (Make make) before after report ending text ended =
 command_counts (Explain explain) before after report ending text ended = none_counted report ended.uncaptured.empty
 command_counts (Print print) before after report ending text ended = none_counted report ended.uncaptured.empty
 command_counts (Serve serve) before after report ending text ended = none_counted report ended.empty
+command_counts (Show show) before after report ending text ended = none_counted report ended.uncaptured.empty
+command_counts (Frames frames) before after report ending text ended = none_counted report ended.uncaptured.empty
 command_counts Help before after report ending text ended = none_counted report ended.empty
 command_counts (Disturb disturb) before after report ending text ended =
     ran_counts (task_disturbed disturb) before after report ending (keeps_order (faults_named disturb)) ended.ran

@@ -10,7 +10,7 @@ use Rattle.net_host.specs.declared.report.Row.{Row}
 use Rattle.net_host.specs.Outside.{Outside}
 use Rattle.net_host.specs.Run.{Task, HasFewWords}
 use Rattle.host_top.specs.declared.command.Command.{Command}
-use Rattle.host_top.specs.declared.command.Command.TheVariants.{Run, Make, Explain, Print, Help, Disturb, Serve}
+use Rattle.host_top.specs.declared.command.Command.TheVariants.{Run, Make, Explain, Print, Help, Disturb, Serve, Show, Frames}
 use Rattle.host_top.specs.declared.ending.Ending.{Ending}
 use Rattle.host_top.specs.declared.ending.Ending.TheVariants.{Done, Refused, Script, Limit, Entry, FrameLimit, Read, Capture, NoMemory}
 use Rattle.host_top.specs.Command.{IsTaken}
@@ -27,6 +27,12 @@ use Rattle.host_top.specs.Serve.{ending_served, values_named}
 use Rattle.host_top.specs.Status.{ComesExactly, IsStatusOf}
 use Rattle.host_top.proofs.ExplainLemmas.{explain_complete, explain_unrefused}
 use Rattle.host_top.proofs.ServeLemmas.{serve_unrefused}
+use Rattle.script_text.specs.Shown.{ReadsWhole, HasCause as HasCauseOfShow}
+use Rattle.script_text.specs.declared.showing.ShowError.{ShowError}
+use Rattle.script_text.specs.declared.showing.ShowError.TheVariants as show_error
+use Rattle.host_top.specs.HostMain.{IsDoneIfFile}
+use Rattle.host_top.specs.Show.{ending_shown, TellsEvents}
+use Rattle.host_top.proofs.ShowLemmas.{show_says, frames_says, frames_complete}
 
 -- how what the words ask for ended, what the output answered, and the status
 pub record Answered (words : List (List ℕ)) (asked : Option Command) (before after : Outside) (report : List Row) (ending : Ending)
@@ -48,6 +54,10 @@ not_refused (Print print) before after report Refused text ended is =
 not_refused Help before after report Refused text ended is = omega (arith, ap status_of ended.done)
 not_refused (Disturb disturb) before after report Refused text ended is = ended.ran
 not_refused (Serve serve) before after report Refused text ended is = serve_unrefused serve before after ended.rows Refused ended.serves is
+not_refused (Show show) before after report Refused text ended is =
+    (show_says show.max_events before.left after.left before.read_faults after.read_faults ended.lines Refused ended.shows).unrefused is
+not_refused (Frames frames) before after report Refused text ended is =
+    (frames_says frames.max_events before.left after.left before.read_faults after.read_faults ended.lines Refused ended.shows).unrefused is
 not_refused command before after report (Script offset) text ended is = omega arith
 not_refused command before after report Limit text ended is = omega arith
 not_refused command before after report (Entry offset) text ended is = omega arith
@@ -122,6 +132,19 @@ complete_served serve before after rows result (Err error.Sink) finished cause i
 complete_served serve before after rows result (Err error.NoMemory) finished cause is read capture =
     no_memory before.left serve.max_events result is
 
+complete_shown : (max : ℕ) (left_old left_new : Option (List ℕ)) (faults_old faults_new : ℕ) (lines : List ℕ) (result : ℕ) (answer : Result (Unit {0}) ShowError)
+    → OnOk answer (ReadsWhole max left_old left_new (TellsEvents lines)) → IfErr answer (HasCauseOfShow max left_old faults_old faults_new)
+    → result ≡ status_of (ending_shown answer) → (IsRisen faults_old faults_new → ⊥) → IfSome left_old (IsStatusOf max result)
+complete_shown max left_old left_new faults_old faults_new lines result (Ok _) whole cause is read =
+    valid_script left_old max whole.events result whole.script is
+complete_shown max left_old left_new faults_old faults_new lines result (Err (show_error.Script offset)) whole cause is read =
+    broken_script left_old max offset result cause.0 is
+complete_shown max left_old left_new faults_old faults_new lines result (Err show_error.Limit) whole cause is read =
+    long_script left_old max result cause.0 is
+complete_shown max left_old left_new faults_old faults_new lines result (Err show_error.Read) whole cause is read = absurd (read cause)
+complete_shown max left_old left_new faults_old faults_new lines result (Err show_error.NoMemory) whole cause is read =
+    no_memory left_old max result is
+
 complete_of : (command : Command) (before after : Outside) (report : List Row) (ending : Ending) (text : List ℕ) (result : ℕ)
     → EndedAs command before after report ending text → result ≡ status_of ending
     → (IsRisen before.read_faults after.read_faults → ⊥) → (IsRisen before.capture_faults after.capture_faults → ⊥)
@@ -152,6 +175,11 @@ complete_of (Print print) before after report ending text result ended is read c
     explain_complete print.max_frames before.left after.left before.read_faults after.read_faults (TellsLines ended.lines) ending result ended.prints is read
 complete_of (Serve serve) before after report ending text result ended is read capture =
     complete_served serve before after ended.rows result ended.serves.answer ended.serves.finished ended.serves.cause (is ∙ ap status_of ended.serves.ends) read capture
+complete_of (Show show) before after report ending text result ended is read capture =
+    complete_shown show.max_events before.left after.left before.read_faults after.read_faults ended.lines result ended.shows.answer ended.shows.whole ended.shows.cause
+    (is ∙ ap status_of ended.shows.ends) read
+complete_of (Frames frames) before after report ending text result ended is read capture =
+    frames_complete frames.max_events before.left after.left before.read_faults after.read_faults ended.lines ending result ended.shows is read
 complete_of Help before after report ending text result ended is read capture = inl (is ∙ ap status_of ended.done)
 complete_of (Disturb disturb) before after report Done text result ended is read capture =
     valid_script before.left disturb.run.max_events ended.ran.0.events result ended.ran.0.script is
@@ -172,6 +200,10 @@ unless_no_memory : (max : ℕ) (left : Option (List ℕ)) (result : ℕ) → res
 unless_no_memory max None result is = tt
 unless_no_memory max (Some bytes) result is = λ entries file. inr is
 
+unless_no_memory_file : (max : ℕ) (left : Option (List ℕ)) (result : ℕ) → result ≡ 7 → IfSome left (IsDoneIfFile max result)
+unless_no_memory_file max None result is = tt
+unless_no_memory_file max (Some bytes) result is = λ entries file. inr is
+
 complete_at_7 : (command : Command) (before : Outside) (result : ℕ) → result ≡ 7 → IsComplete command before result
 complete_at_7 (Run run) before result is = no_memory before.left run.max_events result is
 complete_at_7 (Make make) before result is = inr is
@@ -180,6 +212,8 @@ complete_at_7 (Print print) before result is = unless_no_memory print.max_frames
 complete_at_7 Help before result is = inr is
 complete_at_7 (Disturb disturb) before result is = no_memory before.left disturb.run.max_events result is
 complete_at_7 (Serve serve) before result is = no_memory before.left serve.max_events result is
+complete_at_7 (Show show) before result is = no_memory before.left show.max_events result is
+complete_at_7 (Frames frames) before result is = unless_no_memory_file frames.max_events before.left result is
 
 complete_at : (words : List (List ℕ)) (asked : Option Command) (before after : Outside) (report : List Row) (ending : Ending) (text : List ℕ)
     (answer : Result (Unit {0}) SinkError) (result : ℕ) → Ask words asked → HasEnded asked before after report ending text

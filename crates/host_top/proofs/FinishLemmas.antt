@@ -5,7 +5,7 @@ use Rattle.phy_layers.specs.Sink.{Took}
 use Rattle.script_source.specs.declared.source.ScriptSource as script_source
 use Rattle.net_host.specs.declared.report.Row.{Row}
 use Rattle.net_host.specs.Outside.{Outside, outside_of}
-use Rattle.host_top.specs.declared.command.Command.TheVariants.{Run, Make, Explain, Print, Help, Disturb, Serve}
+use Rattle.host_top.specs.declared.command.Command.TheVariants.{Run, Make, Explain, Print, Help, Disturb, Serve, Show, Frames}
 use Rattle.host_top.specs.declared.command.MakeCommand.{MakeCommand}
 use Rattle.host_top.specs.declared.command.RunCommand.{RunCommand}
 use Rattle.host_top.specs.declared.disturb_command.DisturbCommand.{DisturbCommand}
@@ -16,6 +16,8 @@ use Rattle.server_run.specs.declared.report.ServeRow.{ServeRow}
 use Rattle.host_top.specs.declared.serve_command.ServeCommand.{ServeCommand}
 use Rattle.host_top.specs.Explain.{ExplainsAs, PrintsAs}
 use Rattle.host_top.specs.Serve.{ServesAs}
+use Rattle.host_top.specs.declared.show_command.ShowCommand.{ShowCommand}
+use Rattle.host_top.specs.Show.{ShowsAs, FramesAs, remark_of}
 use Rattle.host_top.specs.ServeText.{serve_bytes}
 use Rattle.capture_explain.specs.declared.explanation.ExplainRow.{ExplainRow}
 use Rattle.capture_explain.specs.ExplainText.{explanation_bytes}
@@ -117,6 +119,40 @@ finishes_print {S} {C} {O} source captures sink print first last capture report 
   ended = record {
     lines = lines;
     prints = prints;
+    uncaptured = record { captured = refl; faults = refl; empty = empty };
+    says = refl;
+  };
+  took = took;
+}
+
+pub finishes_show : {S C O : Type 0} (source : script_source.Ghosts S) (captures : byte_sink.Ghosts C) (sink : byte_sink.Ghosts O)
+    (show : ShowCommand) (first last : S) (capture : C) (report : List Row) (lines : List ℕ) (finish : Finish) (old new : O)
+    → report ≡ []
+    → ShowsAs show.max_events (source.left first) (source.left last) (source.faults first) (source.faults last) lines finish.ending
+    → Took sink.bytes sink.faults sink.grows finish.answer (lines ++ remark_of finish.ending) old new
+    → Finishes sink (Some (Show show)) (outside_of source captures first capture) (outside_of source captures last capture) report finish old new
+finishes_show {S} {C} {O} source captures sink show first last capture report lines finish old new empty shows took = record {
+  text = lines ++ remark_of finish.ending;
+  ended = record {
+    lines = lines;
+    shows = shows;
+    uncaptured = record { captured = refl; faults = refl; empty = empty };
+    says = refl;
+  };
+  took = took;
+}
+
+pub finishes_frames : {S C O : Type 0} (source : script_source.Ghosts S) (captures : byte_sink.Ghosts C) (sink : byte_sink.Ghosts O)
+    (frames : ShowCommand) (first last : S) (capture : C) (report : List Row) (lines : List ℕ) (finish : Finish) (old new : O)
+    → report ≡ []
+    → FramesAs frames.max_events (source.left first) (source.left last) (source.faults first) (source.faults last) lines finish.ending
+    → Took sink.bytes sink.faults sink.grows finish.answer (lines ++ remark_of finish.ending) old new
+    → Finishes sink (Some (Frames frames)) (outside_of source captures first capture) (outside_of source captures last capture) report finish old new
+finishes_frames {S} {C} {O} source captures sink frames first last capture report lines finish old new empty shows took = record {
+  text = lines ++ remark_of finish.ending;
+  ended = record {
+    lines = lines;
+    shows = shows;
     uncaptured = record { captured = refl; faults = refl; empty = empty };
     says = refl;
   };

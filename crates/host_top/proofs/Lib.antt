@@ -15,6 +15,8 @@ pub mod OneSettingLemmas
 pub mod PrintedLemmas
 pub mod RanLemmas
 pub mod ServeLemmas
+pub mod ShowLemmas
+pub mod ShownLemmas
 pub mod SettingLemmas
 pub mod SettingWordLemmas
 pub mod StatusLemmas

@@ -7,7 +7,7 @@ use Rattle.phy_layers.specs.declared.byte_sink.SinkError.TheVariants as sink
 use Rattle.net_host.specs.declared.report.Row.{Row}
 use Rattle.net_host.specs.Outside.{Outside, IsQuiet}
 use Rattle.host_top.specs.declared.command.Command.{Command}
-use Rattle.host_top.specs.declared.command.Command.TheVariants.{Run, Make, Explain, Print, Help, Disturb, Serve}
+use Rattle.host_top.specs.declared.command.Command.TheVariants.{Run, Make, Explain, Print, Help, Disturb, Serve, Show, Frames}
 use Rattle.host_top.specs.declared.ending.Ending.{Ending}
 use Rattle.host_top.specs.declared.ending.Ending.TheVariants.{Done, Script, Limit, Entry, FrameLimit, Read, Capture}
 use Rattle.host_top.specs.Ending.{status_of, status_after}
@@ -16,6 +16,7 @@ use Rattle.host_top.proofs.EndingLemmas.{Answered}
 use Rattle.capture_explain.specs.Rows.{TellsRows}
 use Rattle.host_top.specs.Explain.{TellsLines}
 use Rattle.host_top.proofs.ExplainLemmas.{explain_broken, explain_done, explain_long, explain_read, explain_uncaptured}
+use Rattle.host_top.proofs.ShowLemmas.{show_says, frames_says}
 use Rattle.host_top.proofs.ServeLemmas.{serve_broken, serve_captured, serve_done, serve_long, serve_read}
 
 -- what 0, 2, 3, 4 and 5 say
@@ -37,6 +38,12 @@ done_of (Print print) before after report text ended =
 done_of (Serve serve) before after report text ended =
     let done = serve_done serve before after ended.rows Done ended.serves (λ i. 0) in
     ((ended.empty, ended.rows, done.0), done.1)
+done_of (Show show) before after report text ended =
+    let done = (show_says show.max_events before.left after.left before.read_faults after.read_faults ended.lines Done ended.shows).done (λ i. 0) in
+    ((ended.uncaptured.empty, ended.lines, done.0), record { source = done.1; capture = ended.uncaptured.faults })
+done_of (Frames frames) before after report text ended =
+    let done = (frames_says frames.max_events before.left after.left before.read_faults after.read_faults ended.lines Done ended.shows).done (λ i. 0) in
+    ((ended.uncaptured.empty, ended.lines, done.0), record { source = done.1; capture = ended.uncaptured.faults })
 done_of Help before after report text ended =
     (ended.empty, record { source = ap (λ o. o.read_faults) ended.same; capture = ap (λ o. o.capture_faults) ended.same })
 
@@ -61,6 +68,10 @@ broken_of (Explain explain) before after report offset text ended =
     explain_broken explain.max_frames before.left after.left before.read_faults after.read_faults (TellsRows ended.rows) (Script offset) ended.explains (λ i. 2)
 broken_of (Print print) before after report offset text ended =
     explain_broken print.max_frames before.left after.left before.read_faults after.read_faults (TellsLines ended.lines) (Script offset) ended.prints (λ i. 2)
+broken_of (Show show) before after report offset text ended =
+    (show_says show.max_events before.left after.left before.read_faults after.read_faults ended.lines (Script offset) ended.shows).broken (λ i. 2)
+broken_of (Frames frames) before after report offset text ended =
+    (frames_says frames.max_events before.left after.left before.read_faults after.read_faults ended.lines (Script offset) ended.shows).broken (λ i. 2)
 broken_of Help before after report offset text ended = omega (arith, ap status_of ended.done)
 
 broken_at : (command : Command) (before after : Outside) (report : List Row) (ending : Ending) (text : List ℕ)
@@ -70,6 +81,8 @@ broken_at (Explain explain) before after report ending text ended same =
 broken_at (Print print) before after report ending text ended same =
     explain_broken print.max_frames before.left after.left before.read_faults after.read_faults (TellsLines ended.lines) ending ended.prints same
 broken_at (Serve serve) before after report ending text ended same = serve_broken serve before after ended.rows ending ended.serves same
+broken_at (Show show) before after report ending text ended same = (show_says show.max_events before.left after.left before.read_faults after.read_faults ended.lines ending ended.shows).broken same
+broken_at (Frames frames) before after report ending text ended same = (frames_says frames.max_events before.left after.left before.read_faults after.read_faults ended.lines ending ended.shows).broken same
 broken_at command before after report (Script offset) text ended same = broken_of command before after report offset text ended
 broken_at (Run run) before after report (Entry offset) text ended same = absurd ended.ran
 broken_at (Make make) before after report (Entry offset) text ended same = absurd ended.may
@@ -87,6 +100,8 @@ long_of (Explain explain) before after report text ended =
     explain_long explain.max_frames before.left after.left before.read_faults after.read_faults (TellsRows ended.rows) Limit ended.explains (λ i. 3)
 long_of (Print print) before after report text ended =
     explain_long print.max_frames before.left after.left before.read_faults after.read_faults (TellsLines ended.lines) Limit ended.prints (λ i. 3)
+long_of (Show show) before after report text ended = (show_says show.max_events before.left after.left before.read_faults after.read_faults ended.lines Limit ended.shows).long (λ i. 3)
+long_of (Frames frames) before after report text ended = (frames_says frames.max_events before.left after.left before.read_faults after.read_faults ended.lines Limit ended.shows).long (λ i. 3)
 long_of Help before after report text ended = omega (arith, ap status_of ended.done)
 
 long_at : (command : Command) (before after : Outside) (report : List Row) (ending : Ending) (text : List ℕ)
@@ -96,6 +111,8 @@ long_at (Explain explain) before after report ending text ended same =
 long_at (Print print) before after report ending text ended same =
     explain_long print.max_frames before.left after.left before.read_faults after.read_faults (TellsLines ended.lines) ending ended.prints same
 long_at (Serve serve) before after report ending text ended same = serve_long serve before after ended.rows ending ended.serves same
+long_at (Show show) before after report ending text ended same = (show_says show.max_events before.left after.left before.read_faults after.read_faults ended.lines ending ended.shows).long same
+long_at (Frames frames) before after report ending text ended same = (frames_says frames.max_events before.left after.left before.read_faults after.read_faults ended.lines ending ended.shows).long same
 long_at command before after report Limit text ended same = long_of command before after report text ended
 long_at (Run run) before after report FrameLimit text ended same = absurd ended.ran
 long_at (Make make) before after report FrameLimit text ended same = absurd ended.may
@@ -113,6 +130,8 @@ read_of (Explain explain) before after report text ended =
     explain_read explain.max_frames before.left after.left before.read_faults after.read_faults (TellsRows ended.rows) Read ended.explains (λ i. 4)
 read_of (Print print) before after report text ended =
     explain_read print.max_frames before.left after.left before.read_faults after.read_faults (TellsLines ended.lines) Read ended.prints (λ i. 4)
+read_of (Show show) before after report text ended = (show_says show.max_events before.left after.left before.read_faults after.read_faults ended.lines Read ended.shows).read (λ i. 4)
+read_of (Frames frames) before after report text ended = (frames_says frames.max_events before.left after.left before.read_faults after.read_faults ended.lines Read ended.shows).read (λ i. 4)
 read_of Help before after report text ended = absurd (omega (arith, ap status_of ended.done))
 
 read_at : (command : Command) (before after : Outside) (report : List Row) (ending : Ending) (text : List ℕ)
@@ -130,6 +149,8 @@ capture_of (Explain explain) before after report text ended =
     absurd (explain_uncaptured explain.max_frames before.left after.left before.read_faults after.read_faults (TellsRows ended.rows) Capture ended.explains (λ i. 5))
 capture_of (Print print) before after report text ended =
     absurd (explain_uncaptured print.max_frames before.left after.left before.read_faults after.read_faults (TellsLines ended.lines) Capture ended.prints (λ i. 5))
+capture_of (Show show) before after report text ended = absurd ((show_says show.max_events before.left after.left before.read_faults after.read_faults ended.lines Capture ended.shows).uncaptured (λ i. 5))
+capture_of (Frames frames) before after report text ended = absurd ((frames_says frames.max_events before.left after.left before.read_faults after.read_faults ended.lines Capture ended.shows).uncaptured (λ i. 5))
 capture_of Help before after report text ended = absurd (omega (arith, ap status_of ended.done))
 
 capture_at : (command : Command) (before after : Outside) (report : List Row) (ending : Ending) (text : List ℕ)

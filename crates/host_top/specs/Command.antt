@@ -2,7 +2,7 @@
 use Rattle.std.specs.Prelude.{◌≡◌, ℕ, ◌⊎◌, ⊤, true, false, List, [], ◌∷◌, Option, option_map, codes}
 use Rattle.host_top.specs.declared.command.Asked.{Asked}
 use Rattle.host_top.specs.declared.command.Command.{Command}
-use Rattle.host_top.specs.declared.command.Command.TheVariants.{Run, Make, Explain, Print, Help, Disturb, Serve}
+use Rattle.host_top.specs.declared.command.Command.TheVariants.{Run, Make, Explain, Print, Help, Disturb, Serve, Show, Frames}
 use Rattle.host_top.specs.declared.command.Keyword.{Keyword}
 use Rattle.host_top.specs.declared.command.Keyword.TheVariants as keyword
 use Rattle.host_top.specs.declared.command.MakeCommand.{MakeCommand}
@@ -15,6 +15,8 @@ use Rattle.host_top.specs.MakeWords.{WritesMake, run_of_make}
 use Rattle.host_top.specs.RunWords.{WritesRun, IsRunnable}
 use Rattle.host_top.specs.Serve.{WritesServe, IsServable}
 use Rattle.host_top.specs.declared.serve_command.ServeCommand.{ServeCommand}
+use Rattle.host_top.specs.declared.show_command.ShowCommand.{ShowCommand}
+use Rattle.host_top.specs.Show.{WritesShow, IsShowable}
 
 -- a word that asks how the program is used
 abbrev pub IsHelpWord : List ℕ → Type 0
@@ -29,6 +31,8 @@ IsKeyword word keyword.Print = word ≡ codes "print"
 IsKeyword word keyword.Help = IsHelpWord word
 IsKeyword word keyword.Disturb = word ≡ codes "disturb"
 IsKeyword word keyword.Serve = word ≡ codes "serve"
+IsKeyword word keyword.Show = word ≡ codes "show"
+IsKeyword word keyword.Frames = word ≡ codes "frames"
 
 -- what the words behind the first one say that the command is, by what the first one asks for
 abbrev pub WritesAs : Keyword → List (List ℕ) → Command → Type 0
@@ -39,6 +43,8 @@ WritesAs keyword.Print words command = (capture : CaptureCommand) × (command �
 WritesAs keyword.Help words command = (command ≡ Help) × (words ≡ [])
 WritesAs keyword.Disturb words command = (disturb : DisturbCommand) × (command ≡ Disturb disturb) × WritesDisturb words disturb
 WritesAs keyword.Serve words command = (serve : ServeCommand) × (command ≡ Serve serve) × WritesServe words serve
+WritesAs keyword.Show words command = (show : ShowCommand) × (command ≡ Show show) × WritesShow words show
+WritesAs keyword.Frames words command = (frames : ShowCommand) × (command ≡ Frames frames) × WritesShow words frames
 
 -- the words name the command
 pub record NameWork (words : List (List ℕ)) (command : Command) : Type 0 where
@@ -58,6 +64,8 @@ CanBeLive (Print capture) = ⊥
 CanBeLive Help = ⊥
 CanBeLive (Disturb disturb) = ⊤
 CanBeLive (Serve serve) = ⊤
+CanBeLive (Show show) = ⊥
+CanBeLive (Frames frames) = ⊥
 
 -- the words name such a command
 pub record NameLiveWork (words : List (List ℕ)) (command : Command) : Type 0 where
@@ -101,3 +109,5 @@ IsCommand (Print capture) = IsReadable capture
 IsCommand Help = ⊤
 IsCommand (Disturb disturb) = IsDisturbable disturb
 IsCommand (Serve serve) = IsServable serve
+IsCommand (Show show) = IsShowable show
+IsCommand (Frames frames) = IsShowable frames

@@ -13,7 +13,7 @@ use Rattle.capture_explain.specs.Explained.{ReadsWhole}
 use Rattle.capture_explain.specs.Rows.{TellsRows}
 use Rattle.capture_explain.specs.ExplainText.{explanation_bytes}
 use Rattle.host_top.specs.declared.command.Command.{Command}
-use Rattle.host_top.specs.declared.command.Command.TheVariants.{Run, Make, Explain, Print, Help, Disturb, Serve}
+use Rattle.host_top.specs.declared.command.Command.TheVariants.{Run, Make, Explain, Print, Help, Disturb, Serve, Show, Frames}
 use Rattle.host_top.specs.declared.command.MakeCommand.{MakeCommand}
 use Rattle.host_top.specs.declared.command.RunCommand.{RunCommand}
 use Rattle.host_top.specs.declared.ending.Ending.{Ending}
@@ -35,6 +35,11 @@ use Rattle.server_run.specs.Served.{Finished as IsServed}
 use Rattle.host_top.specs.declared.serve_command.ServeCommand.{ServeCommand}
 use Rattle.host_top.specs.Serve.{ServesAs, values_named}
 use Rattle.host_top.specs.ServeText.{serve_bytes}
+use Rattle.script_text.specs.CapturedFrames.{IsFile, IsBrokenAt as IsBrokenFile, IsOverLimit as IsLongFile}
+use Rattle.script_text.specs.Shown.{ReadsWhole as ReadsScript}
+use Rattle.script_text.specs.ShownFrames.{ReadsWhole as ReadsFile}
+use Rattle.host_top.specs.declared.show_command.ShowCommand.{ShowCommand}
+use Rattle.host_top.specs.Show.{ShowsAs, FramesAs, TellsEvents, TellsFrames, remark_of}
 use Rattle.host_top.specs.Status.{IsStatusOf, IsUnlessNoMemory}
 use Rattle.host_top.specs.Usage.{help_text}
 
@@ -91,6 +96,22 @@ pub record EndedServe (serve : ServeCommand) (before after : Outside) (report : 
   pub empty : report ≡ []
   pub says : text ≡ serve_bytes rows ++ last_line ending
 
+-- A text of a script ended so: the lines of its events, and the last line as a comment.
+pub record EndedShow (show : ShowCommand) (before after : Outside) (report : List Row) (ending : Ending)
+    (text : List ℕ) : Type 0 where
+  pub lines : List ℕ
+  pub shows : ShowsAs show.max_events before.left after.left before.read_faults after.read_faults lines ending
+  pub uncaptured : IsUncaptured before after report
+  pub says : text ≡ lines ++ remark_of ending
+
+-- the same of the frames of a capture
+pub record EndedFrames (frames : ShowCommand) (before after : Outside) (report : List Row) (ending : Ending)
+    (text : List ℕ) : Type 0 where
+  pub lines : List ℕ
+  pub shows : FramesAs frames.max_events before.left after.left before.read_faults after.read_faults lines ending
+  pub uncaptured : IsUncaptured before after report
+  pub says : text ≡ lines ++ remark_of ending
+
 -- how the program is used was printed, and nothing else was done
 pub record EndedHelp (before after : Outside) (report : List Row) (ending : Ending) (text : List ℕ) : Type 0 where
   pub done : ending ≡ Done
@@ -107,6 +128,8 @@ EndedAs (Print capture) before after report ending text = EndedPrint capture bef
 EndedAs Help before after report ending text = EndedHelp before after report ending text
 EndedAs (Disturb disturb) before after report ending text = EndedDisturb disturb before after report ending text
 EndedAs (Serve serve) before after report ending text = EndedServe serve before after report ending text
+EndedAs (Show show) before after report ending text = EndedShow show before after report ending text
+EndedAs (Frames frames) before after report ending text = EndedFrames frames before after report ending text
 
 -- words that name no command: the last line says how the program is used, and nothing is reported
 pub record EndedRefused (report : List Row) (ending : Ending) (text : List ℕ) : Type 0 where
@@ -139,10 +162,18 @@ IsDone Help before after report = report ≡ []
 IsDone (Disturb disturb) before after report = Finished (task_disturbed disturb) before after report
 IsDone (Serve serve) before after report =
     (report ≡ []) × (rows : List ServeRow) × IsServed (values_named serve) serve.max_events before after rows
+IsDone (Show show) before after report =
+    (report ≡ []) × (lines : List ℕ) × ReadsScript show.max_events before.left after.left (TellsEvents lines)
+IsDone (Frames frames) before after report =
+    (report ≡ []) × (lines : List ℕ) × ReadsFile frames.max_events before.left after.left (TellsFrames lines)
 
 -- the bytes have no header of a capture, or something else than an entry stands in them
 abbrev pub IsNoCapture : ℕ → List ℕ → Type 0
 IsNoCapture max bytes = HasNoHeader bytes ⊎ ((offset : ℕ) × IsBrokenCapture max bytes offset)
+
+-- nor are they those of frames whose times never fall
+abbrev pub IsNoFile : ℕ → List ℕ → Type 0
+IsNoFile max bytes = HasNoHeader bytes ⊎ ((offset : ℕ) × IsBrokenFile max bytes offset)
 
 -- the script of a command is broken
 abbrev pub HasBrokenScript : Command → Outside → Type 0
@@ -156,6 +187,9 @@ HasBrokenScript (Disturb disturb) before =
     IfSome before.left (λ bytes. (offset : ℕ) × IsBrokenAt disturb.run.max_events bytes offset)
 HasBrokenScript (Serve serve) before =
     IfSome before.left (λ bytes. (offset : ℕ) × IsBrokenAt serve.max_events bytes offset)
+HasBrokenScript (Show show) before =
+    IfSome before.left (λ bytes. (offset : ℕ) × IsBrokenAt show.max_events bytes offset)
+HasBrokenScript (Frames frames) before = IfSome before.left (IsNoFile frames.max_events)
 
 -- the script of a command is over the limit
 abbrev pub HasLongScript : Command → Outside → Type 0
@@ -166,10 +200,15 @@ HasLongScript (Print capture) before = IfSome before.left (IsLongCapture capture
 HasLongScript Help before = ⊥
 HasLongScript (Disturb disturb) before = IfSome before.left (IsOverLimit disturb.run.max_events)
 HasLongScript (Serve serve) before = IfSome before.left (IsOverLimit serve.max_events)
+HasLongScript (Show show) before = IfSome before.left (IsOverLimit show.max_events)
+HasLongScript (Frames frames) before = IfSome before.left (IsLongFile frames.max_events)
 
 -- where the bytes are a capture file, the status is 0, or memory ran out
 abbrev pub IsDoneIfCapture : ℕ → ℕ → List ℕ → Type 0
 IsDoneIfCapture max result bytes = (entries : List CaptureEntry) → IsCaptureFile max bytes entries → IsUnlessNoMemory 0 result
+
+abbrev pub IsDoneIfFile : ℕ → ℕ → List ℕ → Type 0
+IsDoneIfFile max result bytes = (entries : List CaptureEntry) → IsFile max bytes entries → IsUnlessNoMemory 0 result
 
 -- the status of a command that no fault of the outside stopped
 abbrev pub IsComplete : Command → Outside → ℕ → Type 0
@@ -180,6 +219,8 @@ IsComplete (Print capture) before result = IfSome before.left (IsDoneIfCapture c
 IsComplete Help before result = IsUnlessNoMemory 0 result
 IsComplete (Disturb disturb) before result = IfSome before.left (IsStatusOf disturb.run.max_events result)
 IsComplete (Serve serve) before result = IfSome before.left (IsStatusOf serve.max_events result)
+IsComplete (Show show) before result = IfSome before.left (IsStatusOf show.max_events result)
+IsComplete (Frames frames) before result = IfSome before.left (IsDoneIfFile frames.max_events result)
 
 -- what the words ask for: nothing where they are refused
 abbrev pub Ask : List (List ℕ) → Option Command → Type 0
@@ -190,19 +231,21 @@ Ask words (Some command) = Names words command
 abbrev pub AskToMake : List (List ℕ) → Type 0
 AskToMake words = (make : MakeCommand) × NameWork words (Make make)
 
--- the commands that read a capture
-abbrev pub IsOfCapture : Command → Type 0
-IsOfCapture (Run run) = ⊥
-IsOfCapture (Make make) = ⊥
-IsOfCapture (Explain capture) = ⊤
-IsOfCapture (Print capture) = ⊤
-IsOfCapture Help = ⊥
-IsOfCapture (Disturb disturb) = ⊥
-IsOfCapture (Serve serve) = ⊥
+-- the commands that only read, and neither capture nor report
+abbrev pub OnlyReads : Command → Type 0
+OnlyReads (Run run) = ⊥
+OnlyReads (Make make) = ⊥
+OnlyReads (Explain capture) = ⊤
+OnlyReads (Print capture) = ⊤
+OnlyReads Help = ⊥
+OnlyReads (Disturb disturb) = ⊥
+OnlyReads (Serve serve) = ⊥
+OnlyReads (Show show) = ⊤
+OnlyReads (Frames frames) = ⊤
 
 -- the words ask for one of them
-abbrev pub AskOfCapture : List (List ℕ) → Type 0
-AskOfCapture words = (command : Command) × NameWork words command × IsOfCapture command
+abbrev pub AskToRead : List (List ℕ) → Type 0
+AskToRead words = (command : Command) × NameWork words command × OnlyReads command
 
 -- the words name no command, or ask how the program is used
 abbrev pub AskForNoWork : List (List ℕ) → Type 0

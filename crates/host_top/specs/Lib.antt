@@ -17,6 +17,7 @@ pub mod RunWords
 pub mod Serve
 pub mod ServeText
 pub mod Setting
+pub mod Show
 pub mod Status
 pub mod Summary
 pub mod Usage

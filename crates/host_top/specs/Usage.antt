@@ -10,6 +10,8 @@ usage_text =
     ++ codes "       print MAX\n"
     ++ codes "       disturb HW SEED MAX FSEED DROP CORRUPT\n"
     ++ codes "       serve HW ADDR FIRST COUNT PREFIX LEASE MAX\n"
+    ++ codes "       show MAX\n"
+    ++ codes "       frames MAX\n"
     ++ codes "       live COMMAND ...\n"
     ++ codes "       help\n"
 
@@ -18,7 +20,7 @@ abbrev pub words_text : List ℕ
 words_text =
     codes "HW       the hardware address of the host or the server: twelve hexadecimal digits\n"
     ++ codes "SEED     where the ids and ports of its messages come from: 0 to 4294967295\n"
-    ++ codes "MAX      the most events that the script may have: 1 to 10000; of explain and print the most frames: 1 to 100000\n"
+    ++ codes "MAX      the most events that the script may have, of frames the most frames: 1 to 10000; of explain and print: 1 to 100000\n"
     ++ codes "COUNT    how many events the made script has: 1 to 10000; of serve how many addresses: 1 to 1000\n"
     ++ codes "FSEED    where the faults of a bad link come from: 0 to 4294967295\n"
     ++ codes "DROP     how often a frame is dropped, in percent: 0 to 100\n"
@@ -31,8 +33,9 @@ words_text =
 -- what is read, and what is written
 abbrev pub files_text : List ℕ
 files_text =
-    codes "input    standard input: the script of frames, ticks, queries and resets; of explain and print a capture\n"
-    ++ codes "output   standard output: the report, a row an event; of explain a row a frame; of print the headers of each frame\n"
+    codes "input    standard input: the script of frames, ticks, queries and resets; of explain, print and frames a capture\n"
+    ++ codes "output   standard output: the report, a row an event; of explain a row a frame; of print the headers of each frame;\n"
+    ++ codes "         of show and frames a line an event\n"
     ++ codes "capture  capture.pcap: all frames, those that arrived and those that were sent\n"
 
 abbrev pub help_text : List ℕ

@@ -77,7 +77,7 @@ pub(crate) fn print_named<S: ScriptSource, O: ByteSink>(
 }
 
 /// How a reading of a capture ended that was answered so.
-fn ending_explained(answer: Result<(), ExplainError>) -> Ending
+pub(crate) fn ending_explained(answer: Result<(), ExplainError>) -> Ending
     ensures { result ≡ ending_explained answer }
 {
     match answer {

@@ -8,6 +8,7 @@ use crate::capture_command::{CaptureCommand, capture_of};
 use crate::disturb_command::{DisturbCommand, disturb_of};
 use crate::serve_command::{ServeCommand, serve_of};
 use crate::setting::{RunSettings, settings_of};
+use crate::show_command::{ShowCommand, show_of};
 use crate::word::{address_of, number_of, u32_of};
 use net_wire::EthernetAddress;
 
@@ -24,6 +25,10 @@ pub enum Command {
     Help,
     Disturb(DisturbCommand),
     Serve(ServeCommand),
+    /// Write the script of standard input as a text.
+    Show(ShowCommand),
+    /// Write the frames of the capture of standard input as a text.
+    Frames(ShowCommand),
 }
 
 /// Run the host on the script of standard input.
@@ -55,6 +60,7 @@ impl Command {
         match self {
             Command::Run(_) | Command::Disturb(_) | Command::Serve(_) => true,
             Command::Make(_) | Command::Explain(_) | Command::Print(_) | Command::Help => false,
+            Command::Show(_) | Command::Frames(_) => false,
         }
     }
 }
@@ -131,6 +137,8 @@ fn command_of(words: &[String]) -> Option<Command>
         }
         Keyword::Disturb => Some(Command::Disturb(disturb_of(behind)?)),
         Keyword::Serve => Some(Command::Serve(serve_of(behind)?)),
+        Keyword::Show => Some(Command::Show(show_of(behind)?)),
+        Keyword::Frames => Some(Command::Frames(show_of(behind)?)),
     }
 }
 
@@ -144,6 +152,8 @@ enum Keyword {
     Help,
     Disturb,
     Serve,
+    Show,
+    Frames,
 }
 
 /// The command that a first word is for.
@@ -165,6 +175,10 @@ fn keyword_of(word: &[u8]) -> Option<Keyword>
         Some(Keyword::Disturb)
     } else if word == b"serve".as_slice() {
         Some(Keyword::Serve)
+    } else if word == b"show".as_slice() {
+        Some(Keyword::Show)
+    } else if word == b"frames".as_slice() {
+        Some(Keyword::Frames)
     } else {
         None
     }

@@ -13,7 +13,7 @@ ghost use Rattle.net_host.specs.QueryRows.{CountsQueries};
 ghost use Rattle.host_top.specs.Explain.{IsReadable, ExplainsAs, PrintsAs};
 ghost use Rattle.host_top.specs.Ending.{last_line};
 ghost use Rattle.host_top.specs.HostMain.{ForNamed, IsDone, HasBrokenScript, HasLongScript, IsComplete};
-ghost use Rattle.host_top.specs.HostMain.{Ask, AskToMake, AskOfCapture, IsOfCapture, AskForNoWork, HasEnded, Finishes};
+ghost use Rattle.host_top.specs.HostMain.{Ask, AskToMake, AskToRead, OnlyReads, AskForNoWork, HasEnded, Finishes};
 ghost use Rattle.server_run.specs.declared.report.ServeRow.{ServeRow};
 ghost use Rattle.host_top.specs.Serve.{IsServable, ServesAs};
 ghost use Rattle.host_top.specs.ServeText.{serve_bytes};
@@ -35,6 +35,7 @@ use crate::report_text::report_text;
 use crate::running::{run_made, run_named};
 use crate::serve_command::{ServeCommand, serve_named};
 use crate::serve_text::serve_text;
+use crate::show_command::{show_frames, show_script};
 use crate::summary::put_summary;
 use crate::text::flush;
 use crate::usage::put_help;
@@ -88,8 +89,8 @@ pub fn host_main<S: ScriptSource, C: PcapSink, O: ByteSink>(
     // A script that is made stands in the place of the source, of which nothing is read.
     ensures unread { AskToMake (map string_bytes args.now) → script.new ≡ script.old }
 
-    // Where a capture is explained or printed nothing is captured or reported.
-    ensures uncaptured { AskOfCapture (map string_bytes args.now) → (capture.new ≡ capture.old) × (report.new ≡ []) }
+    // Where a script or a capture is only read nothing is captured or reported.
+    ensures uncaptured { AskToRead (map string_bytes args.now) → (capture.new ≡ capture.old) × (report.new ≡ []) }
 
     // Whatever the status: at most four frames of one query to one place of the list of name servers, and no query
     // with two lines.
@@ -123,7 +124,7 @@ fn obey<S: ScriptSource, C: PcapSink, O: ByteSink>(
     ensures untouched { (command_asked asked ≡ None) ⊎ (command_asked asked ≡ Some Command.Help)
         → (script.new ≡ script.old) × (capture.new ≡ capture.old) × (report.new ≡ []) }
     ensures unread { (make : MakeCommand) → command_asked asked ≡ Some (Command.Make make) → script.new ≡ script.old }
-    ensures uncaptured { (command : Command) → command_asked asked ≡ Some command → IsOfCapture command
+    ensures uncaptured { (command : Command) → command_asked asked ≡ Some command → OnlyReads command
         → (capture.new ≡ capture.old) × (report.new ≡ []) }
 {
     match asked {
@@ -151,7 +152,7 @@ fn obey_command<S: ScriptSource, C: PcapSink, O: ByteSink>(
     ensures untouched { command ≡ Command.Help
         → (script.new ≡ script.old) × (capture.new ≡ capture.old) × (report.new ≡ []) }
     ensures unread { (make : MakeCommand) → command ≡ Command.Make make → script.new ≡ script.old }
-    ensures uncaptured { IsOfCapture command → (capture.new ≡ capture.old) × (report.new ≡ []) }
+    ensures uncaptured { OnlyReads command → (capture.new ≡ capture.old) × (report.new ≡ []) }
 {
     match command {
         Command::Run(run) => obey_run(alloc, &run, is_live, script, capture, out, report),
@@ -163,6 +164,8 @@ fn obey_command<S: ScriptSource, C: PcapSink, O: ByteSink>(
             obey_disturb(alloc, &disturb, is_live, script, capture, out, report)
         }
         Command::Serve(serve) => obey_serve(alloc, &serve, is_live, script, capture, out),
+        Command::Show(show) => show_script(alloc, &show, script, out),
+        Command::Frames(frames) => show_frames(alloc, &frames, script, out),
     }
 }
 

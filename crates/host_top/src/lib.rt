@@ -21,6 +21,7 @@ mod running;
 pub mod serve_command;
 pub mod serve_text;
 pub mod setting;
+pub mod show_command;
 pub mod summary;
 pub mod text;
 pub mod usage;

@@ -1,55 +1,78 @@
 -- The entries of a capture that is shown, one after another.
 use Rattle.std.proofs.Common.{◌≡◌, ℕ, ◌+◌, ◌*◌, ◌<◌, ◌≤◌, ◌==◌, ◌⊎◌, inl, inr, Bool, true, false, List, [], ◌∷◌, ◌++◌, length, map, Option, Some, None, IfSome, IfErr, Result, Ok, Err, ap, sym, subst, ◌∙◌, refl, arith, append_assoc, append-nil, length-append}
-use Rattle.std.specs.Io.KnownBytes.{Appends, Consumes, IsAtEnd}
+use Rattle.std.specs.Io.KnownBytes.{Consumes, IsAtEnd}
 use Rattle.std.proofs.KnownBytes.{Consumes-trans}
 use Rattle.std.proofs.lemmas.Bool.{eqb-true}
 use Rattle.std.proofs.lemmas.Bool.Decides.{nat_tests}
-use Rattle.wire_base.specs.Causes.{AppendsFront, IsRisen}
-use Rattle.phy_layers.proofs.SinkLemmas.{Appends-then, AppendsFront-then}
+use Rattle.std.proofs.lemmas.List.{length-map}
+use Rattle.wire_base.specs.Causes.{IsRisen}
+use Rattle.phy_layers.specs.declared.byte_sink.ByteSink as byte_sink
 use Rattle.phy_layers.specs.declared.byte_sink.SinkError.{SinkError}
-use Rattle.phy_layers.specs.declared.byte_sink.SinkError.TheVariants as sink
 use Rattle.host_model.specs.Script.{Event, Frame}
+use Rattle.host_model.specs.Script.{AreInOrder as AreEventsInOrder}
 use Rattle.capture_explain.specs.Capture.{CaptureEntry, entry_bytes, entries_bytes, IsHeader, IsEntry, HasNoHeader, BeginsNoEntry}
 use Rattle.capture_explain.specs.Places.{IsInside, IsWrongLength}
 use Rattle.capture_explain.specs.Reading.{CutsHeader, EndsHeader, EndsEntry, CutsEntry, entry_with}
+use Rattle.capture_explain.specs.Text.{Puts}
 use Rattle.capture_explain.specs.declared.entry_reader.EntryHead.{EntryHead}
 use Rattle.capture_explain.specs.declared.error.ExplainError.{ExplainError}
 use Rattle.capture_explain.specs.declared.error.ExplainError.TheVariants as explain
 use Rattle.capture_explain.proofs.CaptureLemmas.{header_length}
 use Rattle.capture_explain.proofs.PlaceLemmas.{wrong_header, cut_header, wrong_length, cut_entry}
-use Rattle.script_text.specs.CapturedFrames.{MayFollow, IsNextEntry, AreInOrder, entry_micros, entry_event, entries_text, last_time, IsFront, IsFile, BeginsNoNext, IsBrokenAt, IsOverLimit}
-use Rattle.script_text.specs.EventText.{event_line, events_text}
-use Rattle.script_text.specs.FramesError.{of_explain, of_sink}
-use Rattle.script_text.specs.Outside.{Outside, IsQuiet}
-use Rattle.script_text.specs.ShownFrames.{Shown, Taken, Stopped, Interrupted, IsRefusedEntry, Leaves, HasCause, Completes}
-use Rattle.script_text.specs.declared.captured.FramesError.{FramesError}
-use Rattle.script_text.specs.declared.captured.FramesError.TheVariants.{Header, Entry, Limit, Read, Sink, NoMemory}
-use Rattle.script_text.proofs.LineLemmas.{Appends-nil, flat_map-push}
+use Rattle.script_text.specs.CapturedFrames.{MayFollow, IsNextEntry, AreInOrder, entry_micros, entry_event, last_time, IsFront, IsFile, BeginsNoNext, IsBrokenAt, IsOverLimit}
+use Rattle.script_text.specs.EventText.{event_line}
+use Rattle.script_text.specs.ReadAgain.{AreReadAgain}
+use Rattle.script_text.specs.Shown.{PutsEvents}
+use Rattle.script_text.specs.ShownFrames.{PutsFrames, ReadsWhole, Taken, IsRefusedEntry, Stops, HasCause, Completes}
+use Rattle.script_text.specs.TextLaws.{IsOfBytes, AreOfBytes}
+use Rattle.script_text.proofs.LineLemmas.{event_more}
 use Rattle.script_text.proofs.CapturedLemmas.{no_next, refused_next, not_broken, not_over}
+use Rattle.script_text.proofs.ShownLemmas.{read_again, bytes_push}
 
--- what stands before an entry is read: the header and these entries came, and their text was written
-pub record Progress (before now : Outside) (offset count last : ℕ) : Type 0 where
+-- the frames of entries in order are events in order
+events_in_order : (last : ℕ) (entries : List CaptureEntry) → AreInOrder last entries → AreEventsInOrder last (map entry_event entries)
+events_in_order last [] in_order = tt
+events_in_order last (entry ∷ entries) in_order =
+    let next = in_order.0 in (
+      record {
+        not_before = next.follows.not_before;
+        in_range = omega (arith, next.fits.secs_fit, next.follows.in_second);
+        arrival = omega (arith, next.follows.short);
+      },
+      events_in_order (entry_micros entry) entries in_order.1,
+    )
+
+-- and are read again
+frames_again : (max : ℕ) (entries : List CaptureEntry) → AreInOrder 0 entries → length entries ≤ max → AreOfBytes (map entry_event entries)
+    → AreReadAgain max (map entry_event entries)
+frames_again max entries in_order few small =
+    read_again max (map entry_event entries) (events_in_order 0 entries in_order) (omega (arith, length-map entries entry_event, few)) small
+
+-- what stands before an entry is read: the header and these entries came, and this was told of them
+pub record Progress (left_old left_now : Option (List ℕ)) (offset count last : ℕ) (Tells : List CaptureEntry → Type 0) : Type 0 where
   pub entries : List CaptureEntry
   pub front : List ℕ
   pub is_front : IsFront entries front
+  pub small : AreOfBytes (map entry_event entries)
   pub counted : length entries ≡ count
   pub placed : length front ≡ offset
   pub latest : last_time 0 entries ≡ last
-  pub took : Consumes before.left now.left front
-  pub written : Appends before.written now.written (entries_text entries)
+  pub took : Consumes left_old left_now front
+  pub tells : Tells entries
 
 -- before the first entry
-pub starts : (before now : Outside) (header : List ℕ) → IsHeader header → Consumes before.left now.left header → now.written ≡ before.written
-    → Progress before now 24 0 0
-starts before now header is took same = record {
+pub starts : (left_old left_now : Option (List ℕ)) (header : List ℕ) (Tells : List CaptureEntry → Type 0) → IsHeader header
+    → Consumes left_old left_now header → Tells [] → Progress left_old left_now 24 0 0 Tells
+starts left_old left_now header Tells is took none = record {
   entries = [];
   front = header;
   is_front = record { header = header; is_header = is; in_order = tt; whole = sym (append-nil header) };
+  small = tt;
   counted = refl;
   placed = header_length header is;
   latest = refl;
   took = took;
-  written = subst (λ w. Appends before.written w []) (sym same) (Appends-nil before.written);
+  tells = none;
 }
 
 -- one entry more
@@ -73,9 +96,19 @@ events_push : (entries : List CaptureEntry) (entry : CaptureEntry)
 events_push [] entry = refl
 events_push (first ∷ entries) entry = ap (λ (l : List Event). entry_event first ∷ l) (events_push entries entry)
 
-text_push : (entries : List CaptureEntry) (entry : CaptureEntry)
-    → entries_text (entries ++ entry ∷ []) ≡ entries_text entries ++ event_line (entry_event entry)
-text_push entries entry = ap events_text (events_push entries entry) ∙ flat_map-push event_line (map entry_event entries) (entry_event entry)
+-- the line of one entry more
+pub frame_more : {O : Type 0} (sink : byte_sink.Ghosts O) (before middle after : Result (Unit {0}) SinkError) (old between new : O)
+    (entries : List CaptureEntry) (entry : CaptureEntry) → PutsFrames sink before middle old between entries
+    → Puts sink.bytes sink.faults sink.grows middle after (event_line (entry_event entry)) between new
+    → PutsFrames sink before after old new (entries ++ entry ∷ [])
+frame_more {O} sink before middle after old between new entries entry puts line =
+    subst (λ (l : List Event). PutsEvents sink before after old new l) (sym (events_push entries entry))
+    (event_more sink before middle after old between new (map entry_event entries) (entry_event entry) puts line)
+
+small_push : (entries : List CaptureEntry) (entry : CaptureEntry) → AreOfBytes (map entry_event entries) → IsOfBytes (Frame entry.frame)
+    → AreOfBytes (map entry_event (entries ++ entry ∷ []))
+small_push entries entry small is =
+    subst AreOfBytes (sym (events_push entries entry)) (bytes_push (map entry_event entries) (entry_event entry) small is)
 
 front_push : (entries : List CaptureEntry) (entry : CaptureEntry) (front : List ℕ) (last : ℕ) → IsFront entries front
     → last_time 0 entries ≡ last → IsNextEntry last entry → IsFront (entries ++ entry ∷ []) (front ++ entry_bytes entry)
@@ -87,122 +120,91 @@ front_push entries entry front last is latest next = record {
       ∙ ap (λ l. is.header ++ l) (sym (entries_push entries entry));
 }
 
--- one entry more, whose line was written
-pub goes_on : (before now after : Outside) (offset moved count last : ℕ) (entry : CaptureEntry) → Progress before now offset count last
-    → IsNextEntry last entry → Consumes now.left after.left (entry_bytes entry)
-    → Appends now.written after.written (event_line (entry_event entry)) → moved ≡ offset + (16 + length entry.frame)
-    → Progress before after moved (count + 1) (entry_micros entry)
-goes_on before now after offset moved count last entry progress next took line is_moved = record {
+-- one entry more, of which it was told
+pub goes_on : (left_old left_now left_new : Option (List ℕ)) (offset moved count last : ℕ) (entry : CaptureEntry) (Tells More : List CaptureEntry → Type 0)
+    → Progress left_old left_now offset count last Tells → IsNextEntry last entry → Consumes left_now left_new (entry_bytes entry)
+    → IsOfBytes (Frame entry.frame) → ((entries : List CaptureEntry) → Tells entries → More (entries ++ entry ∷ []))
+    → moved ≡ offset + (16 + length entry.frame) → Progress left_old left_new moved (count + 1) (entry_micros entry) More
+goes_on left_old left_now left_new offset moved count last entry Tells More progress next took small told is_moved = record {
   entries = progress.entries ++ entry ∷ [];
   front = progress.front ++ entry_bytes entry;
   is_front = front_push progress.entries entry progress.front last progress.is_front progress.latest next;
+  small = small_push progress.entries entry progress.small small;
   counted = omega (arith, length-append progress.entries (entry ∷ []), progress.counted);
   placed = omega (arith, length-append progress.front (entry_bytes entry), progress.placed, is_moved);
   latest = last_push 0 progress.entries entry;
-  took = Consumes-trans before.left now.left after.left progress.front (entry_bytes entry) progress.took took;
-  written = subst (λ l. Appends before.written after.written l) (sym (text_push progress.entries entry))
-      (Appends-then before.written now.written after.written (entries_text progress.entries) (event_line (entry_event entry)) progress.written line);
+  took = Consumes-trans left_old left_now left_new progress.front (entry_bytes entry) progress.took took;
+  tells = told progress.entries progress.tells;
 }
-
--- one entry more, of whose line a front was written
-broken_off : (max : ℕ) (before now after : Outside) (offset count last : ℕ) (entry : CaptureEntry) → Progress before now offset count last
-    → count < max → IsNextEntry last entry → Consumes now.left after.left (entry_bytes entry)
-    → AppendsFront now.written after.written (event_line (entry_event entry)) → Interrupted max before after
-broken_off max before now after offset count last entry progress few next took line = record {
-  taken = record {
-    entries = progress.entries ++ entry ∷ [];
-    front = progress.front ++ entry_bytes entry;
-    part = [];
-    is_front = front_push progress.entries entry progress.front last progress.is_front progress.latest next;
-    few = omega (arith, length-append progress.entries (entry ∷ []), progress.counted, few);
-    took = subst (λ l. Consumes before.left after.left l) (sym (append-nil (progress.front ++ entry_bytes entry)))
-        (Consumes-trans before.left now.left after.left progress.front (entry_bytes entry) progress.took took);
-  };
-  whole = refl;
-  written = subst (λ l. AppendsFront before.written after.written l) (sym (text_push progress.entries entry))
-      (AppendsFront-then before.written now.written after.written (entries_text progress.entries) (event_line (entry_event entry)) progress.written line);
-}
-
-pub breaks_off : (max : ℕ) (before now after : Outside) (offset count last : ℕ) (entry : CaptureEntry) (error : SinkError)
-    → Progress before now offset count last → count < max → IsNextEntry last entry → Consumes now.left after.left (entry_bytes entry)
-    → AppendsFront now.written after.written (event_line (entry_event entry)) → Leaves max before after (of_sink error)
-breaks_off max before now after offset count last entry sink.Fault progress few next took line =
-    broken_off max before now after offset count last entry progress few next took line
-breaks_off max before now after offset count last entry sink.NoMemory progress few next took line =
-    inr (broken_off max before now after offset count last entry progress few next took line)
 
 -- the header was not read whole
-pub header_leaves : (max : ℕ) (before after : Outside) (error : ExplainError) → CutsHeader error before.left after.left
-    → after.written ≡ before.written → Leaves max before after (of_explain error)
-header_leaves max before after explain.Header cuts same = record { cuts = cuts; written = same }
-header_leaves max before after (explain.Entry offset) cuts same = absurd cuts.ends
-header_leaves max before after explain.Limit cuts same = absurd cuts.ends
-header_leaves max before after explain.Read cuts same = inl (record { cuts = cuts; written = same })
-header_leaves max before after explain.NoMemory cuts same = absurd cuts.ends
+pub header_stops : (max : ℕ) (left_old left_new : Option (List ℕ)) (Tells : List CaptureEntry → Type 0) (error : ExplainError) → Tells []
+    → CutsHeader error left_old left_new → Stops max left_old left_new Tells error
+header_stops max left_old left_new Tells explain.Header none cuts = record { none = none; cuts = cuts }
+header_stops max left_old left_new Tells (explain.Entry offset) none cuts = absurd cuts.ends
+header_stops max left_old left_new Tells explain.Limit none cuts = absurd cuts.ends
+header_stops max left_old left_new Tells explain.Read none cuts = inl (record { none = none; cuts = cuts })
+header_stops max left_old left_new Tells explain.NoMemory none cuts = absurd cuts.ends
 
 -- what was taken with a part behind the entries
-unfoldable taken_with : (max : ℕ) (before now after : Outside) (offset count last : ℕ) (part : List ℕ) → Progress before now offset count last
-    → count ≤ max → Consumes now.left after.left part → Taken max before after
-taken_with max before now after offset count last part progress within took = record {
-  entries = progress.entries;
-  front = progress.front;
-  part = part;
-  is_front = progress.is_front;
-  few = omega (arith, progress.counted, within);
-  took = Consumes-trans before.left now.left after.left progress.front part progress.took took;
-}
-
-stopped : (max : ℕ) (before now after : Outside) (offset count last : ℕ) (part : List ℕ) (progress : Progress before now offset count last)
-    (within : count ≤ max) (took : Consumes now.left after.left part) → after.written ≡ now.written → (Ends : Taken max before after → Type 0)
-    → Ends (taken_with max before now after offset count last part progress within took) → Stopped max before after Ends
-unfolding taken_with
-stopped max before now after offset count last part progress within took same Ends ends = record {
-  taken = taken_with max before now after offset count last part progress within took;
-  ends = ends;
-  written = subst (λ w. Appends before.written w (entries_text progress.entries)) (sym same) progress.written;
-}
+unfoldable taken_with : (max : ℕ) (left_old left_now left_new : Option (List ℕ)) (offset count last : ℕ) (part : List ℕ)
+    (Tells : List CaptureEntry → Type 0) → Progress left_old left_now offset count last Tells
+    → count ≤ max → Consumes left_now left_new part → Taken max left_old left_new Tells
+taken_with max left_old left_now left_new offset count last part Tells progress within took =
+    let few : length progress.entries ≤ max = omega (arith, progress.counted, within) in
+    record {
+      entries = progress.entries;
+      front = progress.front;
+      part = part;
+      is_front = progress.is_front;
+      few = few;
+      read_again = frames_again max progress.entries progress.is_front.in_order few progress.small;
+      tells = progress.tells;
+      took = Consumes-trans left_old left_now left_new progress.front part progress.took took;
+    }
 
 -- no entry was read
-pub entry_leaves : (max : ℕ) (before now after : Outside) (offset count last : ℕ) (error : ExplainError) (is_full : Bool)
-    → Progress before now offset count last → count ≤ max → (is_full ≡ false → count < max) → (is_full ≡ true → count ≡ max)
-    → CutsEntry error is_full now.left after.left → ((o : ℕ) → error ≡ explain.Entry o → (o ≡ offset) × (is_full ≡ false))
-    → (error ≡ explain.Limit → is_full ≡ true) → after.written ≡ now.written → Leaves max before after (of_explain error)
+pub entry_stops : (max : ℕ) (left_old left_now left_new : Option (List ℕ)) (offset count last : ℕ) (Tells : List CaptureEntry → Type 0)
+    (error : ExplainError) (is_full : Bool)
+    → Progress left_old left_now offset count last Tells → count ≤ max → (is_full ≡ false → count < max) → (is_full ≡ true → count ≡ max)
+    → CutsEntry error is_full left_now left_new → ((o : ℕ) → error ≡ explain.Entry o → (o ≡ offset) × (is_full ≡ false))
+    → (error ≡ explain.Limit → is_full ≡ true) → Stops max left_old left_new Tells error
 unfolding taken_with
-entry_leaves max before now after offset count last explain.Header is_full progress within few full cuts told limit same = absurd cuts.ends
-entry_leaves max before now after offset count last (explain.Entry o) is_full progress within few full cuts told limit same =
+entry_stops max left_old left_now left_new offset count last Tells explain.Header is_full progress within few full cuts told limit = absurd cuts.ends
+entry_stops max left_old left_now left_new offset count last Tells (explain.Entry o) is_full progress within few full cuts told limit =
     let here = told o refl in
-    stopped max before now after offset count last cuts.part progress within cuts.took same
-    (λ taken. (length taken.entries < max) × (o ≡ length taken.front)
-    × (EndsEntry (explain.Entry o) after.left taken.part ⊎ IsRefusedEntry (last_time 0 taken.entries) taken.part))
-    (omega (arith, progress.counted, few here.1), here.0 ∙ sym progress.placed, inl cuts.ends)
-entry_leaves max before now after offset count last explain.Limit is_full progress within few full cuts told limit same =
-    stopped max before now after offset count last cuts.part progress within cuts.took same
-    (λ taken. (length taken.entries ≡ max) × EndsEntry explain.Limit after.left taken.part)
-    (progress.counted ∙ full (limit refl), cuts.ends)
-entry_leaves max before now after offset count last explain.Read is_full progress within few full cuts told limit same = inr (
-    stopped max before now after offset count last cuts.part progress within cuts.took same
-    (λ taken. (0 < length taken.part → length taken.entries < max) × EndsEntry explain.Read after.left taken.part)
-    ((λ some. omega (arith, progress.counted, few (cuts.tried refl some))), cuts.ends))
-entry_leaves max before now after offset count last explain.NoMemory is_full progress within few full cuts told limit same = absurd cuts.ends
+    record {
+      taken = taken_with max left_old left_now left_new offset count last cuts.part Tells progress within cuts.took;
+      ends = (omega (arith, progress.counted, few here.1), here.0 ∙ sym progress.placed, inl cuts.ends);
+    }
+entry_stops max left_old left_now left_new offset count last Tells explain.Limit is_full progress within few full cuts told limit = record {
+  taken = taken_with max left_old left_now left_new offset count last cuts.part Tells progress within cuts.took;
+  ends = (progress.counted ∙ full (limit refl), cuts.ends);
+}
+entry_stops max left_old left_now left_new offset count last Tells explain.Read is_full progress within few full cuts told limit = inr (record {
+  taken = taken_with max left_old left_now left_new offset count last cuts.part Tells progress within cuts.took;
+  ends = ((λ some. omega (arith, progress.counted, few (cuts.tried refl some))), cuts.ends);
+})
+entry_stops max left_old left_now left_new offset count last Tells explain.NoMemory is_full progress within few full cuts told limit = absurd cuts.ends
 
 -- an entry was read that may not come next
-pub refused_leaves : (max : ℕ) (before now after : Outside) (offset count last : ℕ) (entry : CaptureEntry)
-    → Progress before now offset count last → count < max → IsEntry entry → Consumes now.left after.left (entry_bytes entry)
-    → ¬ IsNextEntry last entry → after.written ≡ now.written → Leaves max before after (Entry offset)
+pub refused_stops : (max : ℕ) (left_old left_now left_new : Option (List ℕ)) (offset count last : ℕ) (Tells : List CaptureEntry → Type 0)
+    (entry : CaptureEntry) → Progress left_old left_now offset count last Tells → count < max → IsEntry entry
+    → Consumes left_now left_new (entry_bytes entry) → ¬ IsNextEntry last entry → Stops max left_old left_new Tells (explain.Entry offset)
 unfolding taken_with
-refused_leaves max before now after offset count last entry progress few fits took wrong same =
-    stopped max before now after offset count last (entry_bytes entry) progress (omega (arith, few)) took same
-    (λ taken. (length taken.entries < max) × (offset ≡ length taken.front)
-    × (EndsEntry (explain.Entry offset) after.left taken.part ⊎ IsRefusedEntry (last_time 0 taken.entries) taken.part)) (
-      omega (arith, progress.counted, few),
-      sym progress.placed,
-      inr (record {
-        entry = entry;
-        fits = fits;
-        whole = refl;
-        wrong = λ next. wrong (subst (λ t. IsNextEntry t entry) progress.latest next);
-      }),
-    )
+refused_stops max left_old left_now left_new offset count last Tells entry progress few fits took wrong = record {
+  taken = taken_with max left_old left_now left_new offset count last (entry_bytes entry) Tells progress (omega (arith, few)) took;
+  ends = (
+    omega (arith, progress.counted, few),
+    sym progress.placed,
+    inr (record {
+      entry = entry;
+      fits = fits;
+      whole = refl;
+      wrong = λ next. wrong (subst (λ t. IsNextEntry t entry) progress.latest next);
+    }),
+  );
+}
 
 -- a part that is refused, or that the input ends in, is no header
 no_header : (left_old left_new : Option (List ℕ)) (part : List ℕ) → Consumes left_old left_new part
@@ -265,32 +267,26 @@ over max (Some bytes) (Some more) entries front part is took full ends = record 
   goes_on = omega (arith, length-append part more, ends);
 }
 
--- the counts of faults, by an answer of the reader
-pub record Counts (before after : Outside) (error : ExplainError) : Type 0 where
-  pub sink : after.write_faults ≡ before.write_faults
-  pub source : (error ≡ explain.Read → ⊥) → after.read_faults ≡ before.read_faults
-  pub risen : error ≡ explain.Read → IsRisen before.read_faults after.read_faults
-
-quiet_after : (before after : Outside) (error : ExplainError) → Counts before after error → (error ≡ explain.Read → ⊥) → IsQuiet before after
-quiet_after before after error counts other = record { source = counts.source other; sink = counts.sink }
+-- the count of faults by the answer
+pub record Counts (error : ExplainError) (before after : ℕ) : Type 0 where
+  pub quiet : (error ≡ explain.Read → ⊥) → after ≡ before
+  pub risen : error ≡ explain.Read → IsRisen before after
 
 -- the cause of what was left
-pub leaves_cause : (max : ℕ) (before after : Outside) (error : ExplainError) → Leaves max before after (of_explain error)
-    → Counts before after error → HasCause max before after (of_explain error)
-leaves_cause max before after explain.Header leaves counts =
-    (no_header before.left after.left leaves.cuts.part leaves.cuts.took leaves.cuts.ends, quiet_after before after explain.Header counts (λ is. cc))
-leaves_cause max before after (explain.Entry offset) leaves counts =
-    let taken = leaves.taken in (
-      broken max offset before.left after.left taken.entries taken.front taken.part taken.is_front taken.took leaves.ends.0 leaves.ends.1 leaves.ends.2,
-      quiet_after before after (explain.Entry offset) counts (λ is. cc),
+pub stops_cause : (max : ℕ) (left_old left_new : Option (List ℕ)) (Tells : List CaptureEntry → Type 0) (before after : ℕ) (error : ExplainError)
+    → Stops max left_old left_new Tells error → Counts error before after → HasCause max left_old before after error
+stops_cause max left_old left_new Tells before after explain.Header stops counts =
+    (no_header left_old left_new stops.cuts.part stops.cuts.took stops.cuts.ends, counts.quiet (λ is. cc))
+stops_cause max left_old left_new Tells before after (explain.Entry offset) stops counts =
+    let taken = stops.taken in (
+      broken max offset left_old left_new taken.entries taken.front taken.part taken.is_front taken.took stops.ends.0 stops.ends.1 stops.ends.2,
+      counts.quiet (λ is. cc),
     )
-leaves_cause max before after explain.Limit leaves counts =
-    let taken = leaves.taken in (
-      over max before.left after.left taken.entries taken.front taken.part taken.is_front taken.took leaves.ends.0 leaves.ends.1,
-      quiet_after before after explain.Limit counts (λ is. cc),
-    )
-leaves_cause max before after explain.Read leaves counts = (counts.risen refl, counts.sink)
-leaves_cause max before after explain.NoMemory leaves counts = quiet_after before after explain.NoMemory counts (λ is. cc)
+stops_cause max left_old left_new Tells before after explain.Limit stops counts =
+    let taken = stops.taken in
+    (over max left_old left_new taken.entries taken.front taken.part taken.is_front taken.took stops.ends.0 stops.ends.1, counts.quiet (λ is. cc))
+stops_cause max left_old left_new Tells before after explain.Read stops counts = counts.risen refl
+stops_cause max left_old left_new Tells before after explain.NoMemory stops counts = counts.quiet (λ is. cc)
 
 -- it was the last one
 ends_file : (left_old left_now : Option (List ℕ)) (max : ℕ) (entries : List CaptureEntry) (front : List ℕ) → Consumes left_old left_now front
@@ -301,47 +297,35 @@ ends_file (Some bytes) (Some more) max entries front took at_end is few =
     let all : bytes ≡ front = took ∙ ap (λ l. front ++ l) at_end ∙ append-nil front in
     record { is_front = subst (λ l. IsFront entries l) (sym all) is; few = few }
 
-pub finishes : (max : ℕ) (before now after : Outside) (offset count last : ℕ) → Progress before now offset count last → count ≤ max
-    → IsAtEnd now.left → IsAtEnd after.left → after.written ≡ now.written → Shown max before after
-finishes max before now after offset count last progress within was_at_end at_end same = record {
-  entries = progress.entries;
-  file = ends_file before.left now.left max progress.entries progress.front progress.took was_at_end progress.is_front
-      (omega (arith, progress.counted, within));
-  few = omega (arith, progress.counted, within);
-  ended = at_end;
-  written = subst (λ w. Appends before.written w (entries_text progress.entries)) (sym same) progress.written;
-}
+pub finishes : (max : ℕ) (left_old left_now left_new : Option (List ℕ)) (offset count last : ℕ) (Tells : List CaptureEntry → Type 0)
+    → Progress left_old left_now offset count last Tells → count ≤ max → IsAtEnd left_now → IsAtEnd left_new
+    → ReadsWhole max left_old left_new Tells
+finishes max left_old left_now left_new offset count last Tells progress within was_at_end at_end =
+    let few : length progress.entries ≤ max = omega (arith, progress.counted, within) in
+    record {
+      entries = progress.entries;
+      file = ends_file left_old left_now max progress.entries progress.front progress.took was_at_end progress.is_front few;
+      read_again = frames_again max progress.entries progress.is_front.in_order few progress.small;
+      tells = progress.tells;
+      ended = at_end;
+    }
 
--- the counts after a line that was refused
-pub line_cause : (max : ℕ) (before now after : Outside) (error : SinkError) → IsQuiet before now → after.read_faults ≡ now.read_faults
-    → (error ≡ sink.Fault → IsRisen now.write_faults after.write_faults) → (error ≡ sink.NoMemory → after.write_faults ≡ now.write_faults)
-    → HasCause max before after (of_sink error)
-line_cause max before now after sink.Fault quiet same risen kept =
-    (subst (λ n. IsRisen n after.write_faults) quiet.sink (risen refl), same ∙ quiet.source)
-line_cause max before now after sink.NoMemory quiet same risen kept =
-    record { source = same ∙ quiet.source; sink = kept refl ∙ quiet.sink }
-
--- what a source leaves to be read, with the rest of the outside
-abbrev beside : Outside → Option (List ℕ) → Outside
-beside before left = record before { left = left }
-
-by_cause : (max : ℕ) (rest after : Outside) (left : Option (List ℕ)) (result : Result (Unit {0}) FramesError)
-    → IfErr result (HasCause max (beside rest left) after) → Completes max (beside rest left) after result
-by_cause max rest after None result cause = tt
-by_cause max rest after (Some bytes) (Ok done) cause = λ entries file reads writes. inl refl
-by_cause max rest after (Some bytes) (Err Header) cause = λ entries file reads writes.
+by_cause : (max : ℕ) (left : Option (List ℕ)) (before after : ℕ) (result : Result (Unit {0}) ExplainError)
+    → IfErr result (HasCause max left before after) → Completes max left before after result
+by_cause max None before after result cause = tt
+by_cause max (Some bytes) before after (Ok done) cause = λ entries file reads. inl refl
+by_cause max (Some bytes) before after (Err explain.Header) cause = λ entries file reads.
     absurd (cause.0 file.is_front.header (entries_bytes entries) file.is_front.is_header file.is_front.whole)
-by_cause max rest after (Some bytes) (Err (Entry offset)) cause = λ entries file reads writes.
+by_cause max (Some bytes) before after (Err (explain.Entry offset)) cause = λ entries file reads.
     absurd (not_broken max bytes offset entries file cause.0)
-by_cause max rest after (Some bytes) (Err Limit) cause = λ entries file reads writes. absurd (not_over max bytes entries file cause.0)
-by_cause max rest after (Some bytes) (Err Read) cause = λ entries file reads writes. absurd (reads cause.0)
-by_cause max rest after (Some bytes) (Err Sink) cause = λ entries file reads writes. absurd (writes cause.0)
-by_cause max rest after (Some bytes) (Err NoMemory) cause = λ entries file reads writes. inr refl
+by_cause max (Some bytes) before after (Err explain.Limit) cause = λ entries file reads. absurd (not_over max bytes entries file cause.0)
+by_cause max (Some bytes) before after (Err explain.Read) cause = λ entries file reads. absurd (reads cause)
+by_cause max (Some bytes) before after (Err explain.NoMemory) cause = λ entries file reads. inr refl
 
 -- without a cause it ends well
-pub completes : (max : ℕ) (before after : Outside) (result : Result (Unit {0}) FramesError)
-    → IfErr result (HasCause max before after) → Completes max before after result
-completes max before after result cause = by_cause max before after before.left result cause
+pub completes : (max : ℕ) (left : Option (List ℕ)) (before after : ℕ) (result : Result (Unit {0}) ExplainError)
+    → IfErr result (HasCause max left before after) → Completes max left before after result
+completes max left before after result cause = by_cause max left before after result cause
 
 -- the numbers of an entry that may follow
 pub next_entry : (last : ℕ) (head : EntryHead) (frame : List ℕ) → length frame ≡ head.captured → IsEntry (entry_with head frame)

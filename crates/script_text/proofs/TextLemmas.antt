@@ -1,5 +1,5 @@
 -- What is written of events is read again, line by line.
-use Rattle.std.proofs.Common.{◌≡◌, ℕ, ◌+◌, ◌/◌, ◌%◌, ◌^◌, ◌<◌, ◌≤◌, ◌==◌, ◌&&◌, ◌||◌, inl, inr, not, cond, Bool, true, false, List, [], ◌∷◌, ◌++◌, length, Option, Some, Result, Ok, ap, sym, subst, ◌∙◌, refl, arith, append_assoc, append-nil, length-append}
+use Rattle.std.proofs.Common.{◌≡◌, ◌≢◌, ℕ, suc, ◌+◌, ◌/◌, ◌%◌, ◌^◌, ◌<◌, ◌≤◌, ◌==◌, ◌&&◌, ◌||◌, inl, inr, not, cond, Bool, true, false, List, [], ◌∷◌, ◌++◌, length, Option, Some, Result, Ok, ap, sym, subst, ◌∙◌, refl, arith, append_assoc, append-nil, length-append}
 use Rattle.std.specs.Char.{digit_value}
 use Rattle.std.specs.Fmt.{decimal}
 use Rattle.std.specs.List.{All, flat_map, list_all, slice_split, prefix_len}
@@ -18,7 +18,7 @@ use Rattle.script_text.specs.Commands.{Value, TypeValue, BytesValue, query_of}
 use Rattle.script_text.specs.EventText.{time_text, hex_byte, is_plain, escaped, name_byte, first_byte, name_text, type_word, arrival_text, event_line, events_text}
 use Rattle.script_text.specs.Lines.{lines_of, uncommented, is_blank, is_word, words_of}
 use Rattle.script_text.specs.Meaning.{or_wrong, and_then, read_tail, bytes_within, read_command, read_event, read_set, Meaning, OneEvent, OneTooMany, of_set, of_event, meaning_of, Verdict, Right, with_event, by_line, verdict_from}
-use Rattle.script_text.specs.TextLaws.{IsOfBytes, AreOfBytes, ReadsTexts}
+use Rattle.script_text.specs.TextLaws.{IsOfBytes, AreOfBytes, ReadsTexts, ReadsCommented}
 use Rattle.script_text.specs.Words.{where_true}
 use Rattle.script_text.proofs.ReadBackLemmas.{and_true, both_true, where_is, split_none, split_at, digits_pass, six_all, time_is, hex_is, name_is}
 
@@ -321,21 +321,43 @@ meaning_is max count last event few next small =
     ap (meaning_of max count last) (words_are time words (event_clean event next.in_range next.arrival))
     ∙ ap P (time_no_set event.at next.in_range) ∙ ap Q (lt-leb max count few) ∙ ap of_event (event_read last event next small)
 
-reads_from : (max line count last : ℕ) (events : List Event) → AreInOrder last events → count + length events ≤ max → AreOfBytes events
-    → verdict_from max line count last (lines_of (events_text events)) ≡ Right events
-reads_from max line count last [] in_order few small = refl
-reads_from max line count last (event ∷ events) in_order few small =
+-- what stands behind the events may bring no more of them
+reads_from : (max line count last : ℕ) (events : List Event) (more : List ℕ)
+    → ((line count last : ℕ) → verdict_from max line count last (lines_of more) ≡ Right [])
+    → AreInOrder last events → count + length events ≤ max → AreOfBytes events
+    → verdict_from max line count last (lines_of (events_text events ++ more)) ≡ Right events
+reads_from max line count last [] more none in_order few small = none line count last
+reads_from max line count last (event ∷ events) more none in_order few small =
     let next = in_order.0 in
     let p : ℕ → Bool = λ b. b == 0x0a in
-    let rest = events_text events in
+    let rest = events_text events ++ more in
     let clean = event_clean event next.in_range next.arrival in
-    let lines : lines_of (events_text (event ∷ events)) ≡ body event ∷ lines_of rest =
-    ap (slice_split p) (line_is event rest next.arrival)
+    let lines : lines_of (events_text (event ∷ events) ++ more) ≡ body event ∷ lines_of rest =
+    ap (slice_split p) (append_assoc (event_line event) (events_text events) more ∙ line_is event rest next.arrival)
     ∙ split_at p (body event) 0x0a rest (line_pass (λ b. not (p b)) (time_text event.at) (arrival_words event.arrival) refl no_feed clean) refl in
     let F : Meaning → Verdict = λ m. by_line m line count last (λ more later. verdict_from max (line + 1) more later (lines_of rest)) in
     ap (verdict_from max line count last) lines
     ∙ ap F (meaning_is max count last event (omega (arith, few)) next small.0)
-    ∙ ap (with_event event) (reads_from max (line + 1) (count + 1) event.at events in_order.1 (omega (arith, few)) small.1)
+    ∙ ap (with_event event) (reads_from max (line + 1) (count + 1) event.at events more none in_order.1 (omega (arith, few)) small.1)
 
 pub reads_texts : ReadsTexts
-reads_texts = λ max events in_order few small. reads_from max 1 0 0 events in_order (omega (arith, few)) small
+reads_texts = λ max events in_order few small.
+    subst (λ text. verdict_from max 1 0 0 (lines_of text) ≡ Right events) (append-nil (events_text events))
+    (reads_from max 1 0 0 events [] (λ line count last. refl) in_order (omega (arith, few)) small)
+
+-- a comment is one line
+no_feeds : (comment : List ℕ) → All (λ byte. byte ≢ 0x0a) comment → list_all (λ b. not (b == 0x0a)) comment ≡ true
+no_feeds [] all = refl
+no_feeds (byte ∷ comment) all =
+    and_true (not (byte == 0x0a)) (list_all (λ b. not (b == 0x0a)) comment) (ap not (ne_eqb byte 0x0a (all 0 byte (omega arith))))
+    (no_feeds comment (λ k d within. all (suc k) d (omega (arith, within))))
+
+comment_read : (max line count last : ℕ) (comment : List ℕ) → All (λ byte. byte ≢ 0x0a) comment
+    → verdict_from max line count last (lines_of (0x23 ∷ (comment ++ (0x0a ∷ [])))) ≡ Right []
+comment_read max line count last comment all =
+    ap (verdict_from max line count last) (split_at (λ b. b == 0x0a) (0x23 ∷ comment) 0x0a [] (no_feeds comment all) refl)
+
+pub reads_commented : ReadsCommented
+reads_commented = λ max events comment in_order few small all.
+    reads_from max 1 0 0 events (0x23 ∷ (comment ++ (0x0a ∷ []))) (λ line count last. comment_read max line count last comment all)
+    in_order (omega (arith, few)) small

@@ -1,8 +1,7 @@
 -- A capture whose entries are frames of a script: their times never fall.
-use Rattle.std.specs.Prelude.{◌≡◌, ℕ, ◌*◌, ◌+◌, ◌<◌, ◌≤◌, List, [], ◌∷◌, ◌++◌, length, map, ⊤}
+use Rattle.std.specs.Prelude.{◌≡◌, ℕ, ◌*◌, ◌+◌, ◌<◌, ◌≤◌, List, [], ◌∷◌, ◌++◌, length, ⊤}
 use Rattle.host_model.specs.Script.{Event, Frame}
 use Rattle.capture_explain.specs.Capture.{CaptureEntry, entry_bytes, entries_bytes, IsEntry, IsHeader}
-use Rattle.script_text.specs.EventText.{events_text}
 
 -- the time of an entry in microseconds
 abbrev pub entry_micros : CaptureEntry → ℕ
@@ -11,10 +10,6 @@ entry_micros entry = entry.secs * 1000000 + entry.micros
 -- the frame of an entry, which came at its time
 abbrev pub entry_event : CaptureEntry → Event
 entry_event entry = record { at = entry_micros entry; arrival = Frame entry.frame }
-
--- the text of the frames of entries
-abbrev pub entries_text : List CaptureEntry → List ℕ
-entries_text entries = events_text (map entry_event entries)
 
 -- the numbers in front of a frame that may come at the time `last` or later
 pub record MayFollow (last secs micros captured : ℕ) : Type 0 where

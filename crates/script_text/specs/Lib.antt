@@ -1,10 +1,9 @@
 pub mod CapturedFrames
 pub mod Commands
 pub mod EventText
-pub mod FramesError
 pub mod Lines
 pub mod Meaning
-pub mod Outside
+pub mod ReadAgain
 pub mod ShowError
 pub mod Shown
 pub mod ShownFrames

@@ -1,58 +1,52 @@
 -- What is left where the frames of a capture were shown, whatever the answer.
-use Rattle.std.specs.Prelude.{◌≡◌, ℕ, ◌<◌, ◌≤◌, ◌⊎◌, List, [], ◌++◌, length, IfSome, Result, IsOk}
+use Rattle.std.specs.Prelude.{◌≡◌, ℕ, ◌<◌, ◌≤◌, ◌⊎◌, List, ◌++◌, Option, length, map, IfSome, Result, IsOk}
 use Rattle.std.specs.Result.{IsErrOf}
-use Rattle.std.specs.Io.KnownBytes.{Appends, Consumes, IsAtEnd}
-use Rattle.wire_base.specs.Causes.{AppendsFront, IsRisen}
+use Rattle.std.specs.Io.KnownBytes.{Consumes, IsAtEnd}
+use Rattle.wire_base.specs.Causes.{IsRisen}
+use Rattle.phy_layers.specs.declared.byte_sink.ByteSink as byte_sink
+use Rattle.phy_layers.specs.declared.byte_sink.SinkError.{SinkError}
 use Rattle.capture_explain.specs.Capture.{CaptureEntry, entry_bytes, IsEntry, HasNoHeader}
-use Rattle.capture_explain.specs.Reading.{CutsHeader, EndsEntry}
+use Rattle.capture_explain.specs.Explained.{IsUntouched, LacksHeader}
+use Rattle.capture_explain.specs.Reading.{EndsEntry}
 use Rattle.capture_explain.specs.declared.error.ExplainError.{ExplainError}
-use Rattle.capture_explain.specs.declared.error.ExplainError.TheVariants as explain
-use Rattle.script_text.specs.CapturedFrames.{IsFront, IsFile, IsNextEntry, IsBrokenAt, IsOverLimit, entries_text, last_time}
-use Rattle.script_text.specs.Outside.{Outside, IsQuiet}
-use Rattle.script_text.specs.declared.captured.FramesError.{FramesError}
-use Rattle.script_text.specs.declared.captured.FramesError.TheVariants.{Header, Entry, Limit, Read, Sink, NoMemory}
+use Rattle.capture_explain.specs.declared.error.ExplainError.TheVariants.{Header, Entry, Limit, Read, NoMemory}
+use Rattle.script_text.specs.CapturedFrames.{IsFront, IsFile, IsNextEntry, IsBrokenAt, IsOverLimit, entry_event, last_time}
+use Rattle.script_text.specs.ReadAgain.{AreReadAgain}
+use Rattle.script_text.specs.Shown.{PutsEvents}
 
--- A capture was shown to its end. Where the source told its bytes, they were a file of these entries, and the
--- text of all of them was written.
-pub record Shown (max : ℕ) (before after : Outside) : Type 0 where
+-- The text of the frames of some entries was handed to a sink behind what was handed to it before.
+abbrev pub PutsFrames : {O : Type 0} → byte_sink.Ghosts O → Result (Unit {0}) SinkError → Result (Unit {0}) SinkError
+    → O → O → List CaptureEntry → Type 0
+PutsFrames sink before after old new entries = PutsEvents sink before after old new (map entry_event entries)
+
+-- A capture was read to its end. Where the source told its bytes, they were a file of these entries, and this
+-- was told of them.
+pub record ReadsWhole (max : ℕ) (left_old left_new : Option (List ℕ)) (Tells : List CaptureEntry → Type 0)
+    : Type 0 where
   pub entries : List CaptureEntry
-  pub file : IfSome before.left (λ bytes. IsFile max bytes entries)
-  pub few : length entries ≤ max
-  pub ended : IsAtEnd after.left
-  pub written : Appends before.written after.written (entries_text entries)
+  pub file : IfSome left_old (λ bytes. IsFile max bytes entries)
+  pub read_again : AreReadAgain max (map entry_event entries)
+  pub tells : Tells entries
+  pub ended : IsAtEnd left_new
 
--- what was taken from the source: a header and entries, whole and in order, of together `front`, and a part
--- behind them
-pub record Taken (max : ℕ) (before after : Outside) : Type 0 where
+-- what was taken from the source: a header and entries, whole and in order, of together `front`, of which this
+-- was told, and a part behind them
+pub record Taken (max : ℕ) (left_old left_new : Option (List ℕ)) (Tells : List CaptureEntry → Type 0)
+    : Type 0 where
   pub entries : List CaptureEntry
   pub front : List ℕ
   pub part : List ℕ
   pub is_front : IsFront entries front
   pub few : length entries ≤ max
-  pub took : Consumes before.left after.left (front ++ part)
+  pub read_again : AreReadAgain max (map entry_event entries)
+  pub tells : Tells entries
+  pub took : Consumes left_old left_new (front ++ part)
 
--- it stopped between two entries: the text of all entries that were taken was written
-pub record Stopped (max : ℕ) (before after : Outside) (Ends : Taken max before after → Type 0) : Type 0 where
-  pub taken : Taken max before after
+-- it stopped behind some entries
+pub record Stopped (max : ℕ) (left_old left_new : Option (List ℕ)) (Tells : List CaptureEntry → Type 0)
+    (Ends : Taken max left_old left_new Tells → Type 0) : Type 0 where
+  pub taken : Taken max left_old left_new Tells
   pub ends : Ends taken
-  pub written : Appends before.written after.written (entries_text taken.entries)
-
--- it stopped inside a line: whole entries were taken and nothing behind them, and a front of their text was
--- written
-pub record Interrupted (max : ℕ) (before after : Outside) : Type 0 where
-  pub taken : Taken max before after
-  pub whole : taken.part ≡ []
-  pub written : AppendsFront before.written after.written (entries_text taken.entries)
-
--- the header was not read whole, and nothing was written
-pub record LacksHeader (error : ExplainError) (before after : Outside) : Type 0 where
-  pub cuts : CutsHeader error before.left after.left
-  pub written : after.written ≡ before.written
-
--- nothing was taken and nothing written
-pub record IsUntouched (before after : Outside) : Type 0 where
-  pub left : after.left ≡ before.left
-  pub written : after.written ≡ before.written
 
 -- a whole entry that may not come at the time `last` or later
 pub record IsRefusedEntry (last : ℕ) (part : List ℕ) : Type 0 where
@@ -61,37 +55,31 @@ pub record IsRefusedEntry (last : ℕ) (part : List ℕ) : Type 0 where
   pub whole : part ≡ entry_bytes entry
   pub wrong : ¬ IsNextEntry last entry
 
--- what was taken and written where it did not end well, by its answer
-abbrev pub Leaves : ℕ → Outside → Outside → FramesError → Type 0
-Leaves max before after Header = LacksHeader explain.Header before after
-Leaves max before after (Entry offset) = Stopped max before after
+-- What was taken and told where it did not end well, by its answer.
+abbrev pub Stops : ℕ → Option (List ℕ) → Option (List ℕ) → (List CaptureEntry → Type 0) → ExplainError → Type 0
+Stops max left_old left_new Tells Header = LacksHeader Header left_old left_new Tells
+Stops max left_old left_new Tells (Entry offset) = Stopped max left_old left_new Tells
     (λ taken. (length taken.entries < max) × (offset ≡ length taken.front)
-    × (EndsEntry (explain.Entry offset) after.left taken.part
+    × (EndsEntry (Entry offset) left_new taken.part
     ⊎ IsRefusedEntry (last_time 0 taken.entries) taken.part))
-Leaves max before after Limit = Stopped max before after
-    (λ taken. (length taken.entries ≡ max) × EndsEntry explain.Limit after.left taken.part)
-Leaves max before after Read = LacksHeader explain.Read before after
-    ⊎ Stopped max before after
-    (λ taken. (0 < length taken.part → length taken.entries < max)
-    × EndsEntry explain.Read after.left taken.part)
-Leaves max before after Sink = Interrupted max before after
-Leaves max before after NoMemory = IsUntouched before after ⊎ Interrupted max before after
+Stops max left_old left_new Tells Limit = Stopped max left_old left_new Tells
+    (λ taken. (length taken.entries ≡ max) × EndsEntry Limit left_new taken.part)
+Stops max left_old left_new Tells Read = LacksHeader Read left_old left_new Tells
+    ⊎ Stopped max left_old left_new Tells
+    (λ taken. (0 < length taken.part → length taken.entries < max) × EndsEntry Read left_new taken.part)
+Stops max left_old left_new Tells NoMemory = IsUntouched left_old left_new Tells
 
 -- Why it did not end well, by its answer: the bytes of the file, or a count of faults that rose; want of
--- memory is free. No other count of faults changed.
-abbrev pub HasCause : ℕ → Outside → Outside → FramesError → Type 0
-HasCause max before after Header = IfSome before.left HasNoHeader × IsQuiet before after
-HasCause max before after (Entry offset) =
-    IfSome before.left (λ bytes. IsBrokenAt max bytes offset) × IsQuiet before after
-HasCause max before after Limit = IfSome before.left (IsOverLimit max) × IsQuiet before after
-HasCause max before after Read =
-    IsRisen before.read_faults after.read_faults × (after.write_faults ≡ before.write_faults)
-HasCause max before after Sink =
-    IsRisen before.write_faults after.write_faults × (after.read_faults ≡ before.read_faults)
-HasCause max before after NoMemory = IsQuiet before after
+-- memory is free. The count did not change otherwise.
+abbrev pub HasCause : ℕ → Option (List ℕ) → ℕ → ℕ → ExplainError → Type 0
+HasCause max left before after Header = IfSome left HasNoHeader × (after ≡ before)
+HasCause max left before after (Entry offset) =
+    IfSome left (λ bytes. IsBrokenAt max bytes offset) × (after ≡ before)
+HasCause max left before after Limit = IfSome left (IsOverLimit max) × (after ≡ before)
+HasCause max left before after Read = IsRisen before after
+HasCause max left before after NoMemory = after ≡ before
 
--- A file of frames, with no fault of source or sink, is shown unless memory runs out.
-abbrev pub Completes : ℕ → Outside → Outside → Result (Unit {0}) FramesError → Type 0
-Completes max before after result = IfSome before.left (λ bytes. (entries : List CaptureEntry)
-    → IsFile max bytes entries → ¬ IsRisen before.read_faults after.read_faults
-    → ¬ IsRisen before.write_faults after.write_faults → IsOk result ⊎ IsErrOf result NoMemory)
+-- A file of frames, with no fault of the source, is shown unless memory runs out.
+abbrev pub Completes : ℕ → Option (List ℕ) → ℕ → ℕ → Result (Unit {0}) ExplainError → Type 0
+Completes max left before after result = IfSome left (λ bytes. (entries : List CaptureEntry)
+    → IsFile max bytes entries → ¬ IsRisen before after → IsOk result ⊎ IsErrOf result NoMemory)

@@ -1,5 +1,5 @@
 -- Laws of texts.
-use Rattle.std.specs.Prelude.{◌≡◌, ℕ, ◌<◌, ◌≤◌, ◌⊎◌, List, [], ◌∷◌, length, Some, ⊤}
+use Rattle.std.specs.Prelude.{◌≡◌, ◌≢◌, ℕ, ◌<◌, ◌≤◌, ◌⊎◌, List, [], ◌∷◌, ◌++◌, length, Some, ⊤}
 use Rattle.std.specs.List.{All, flat_map}
 use Rattle.host_model.specs.Script.{Arrival, Tick, Reset, Frame, Query, Event, IsName, AreInOrder, time_limit}
 use Rattle.script_text.specs.EventText.{time_text, hex_byte, name_text, events_text}
@@ -41,6 +41,12 @@ AreOfBytes (event ∷ events) = IsOfBytes event.arrival × AreOfBytes events
 abbrev pub ReadsTexts : Type 0
 ReadsTexts = (max : ℕ) (events : List Event) → AreInOrder 0 events → length events ≤ max → AreOfBytes events
     → IsRight max (events_text events) events
+
+-- And so is that with a comment in a further line.
+abbrev pub ReadsCommented : Type 0
+ReadsCommented = (max : ℕ) (events : List Event) (comment : List ℕ) → AreInOrder 0 events → length events ≤ max
+    → AreOfBytes events → All (λ byte. byte ≢ 0x0a) comment
+    → IsRight max (events_text events ++ (0x23 ∷ (comment ++ (0x0a ∷ [])))) events
 
 -- The events of a right text are those of a script: in the order of their times, and no more than may be.
 abbrev pub HasScript : Type 0

@@ -8,6 +8,6 @@ mod line;
 mod showing;
 pub mod words;
 
-pub use captured::{FramesError, frames};
+pub use captured::frames;
 pub use line::event_text;
 pub use showing::{ShowError, show};

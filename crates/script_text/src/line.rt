@@ -1,12 +1,13 @@
 //! The line of an event.
-ghost use Rattle.std.specs.Prelude.{◌≡◌, ◌==◌, length};
-ghost use Rattle.std.specs.List.{flat_map};
+ghost use Rattle.std.specs.Prelude.{◌≡◌, ◌==◌, ◌<◌, length};
+ghost use Rattle.std.specs.List.{All, flat_map};
 ghost use Rattle.net_wire.specs.declared.dns.dns_type.DnsType.{DnsType};
 ghost use Rattle.phy_layers.specs.Sink.{Took};
 ghost use Rattle.script_reader.specs.Reading.{arrival_of};
 ghost use Rattle.capture_explain.specs.Text.{Puts};
 ghost use Rattle.script_text.specs.EventText.{hex_byte, time_text, is_plain, escaped, name_byte, first_byte, name_text};
 ghost use Rattle.script_text.specs.EventText.{type_word, hex_word, arrival_text, event_line, event_of};
+ghost use Rattle.script_text.specs.TextLaws.{IsOfBytes};
 
 use capture_explain::text::{digit_of, put, put_number, put_six_digits};
 use net_wire::dns::DnsType;
@@ -23,11 +24,25 @@ pub fn event_text<O: ByteSink>(
         out.old out.new }
 {
     let mut answer = Ok(());
-    put_time(out, &mut answer, micros);
-    put(out, &mut answer, b" ");
-    put_arrival(out, &mut answer, event);
-    put(out, &mut answer, b"\n");
+    put_event(out, &mut answer, micros, event);
     answer
+}
+
+/// Writes the line of an event at so many microseconds, unless an earlier piece was refused.
+pub(crate) fn put_event<O: ByteSink>(
+    out: &mut O,
+    answer: &mut Result<(), SinkError>,
+    micros: u64,
+    event: ScriptEvent<'_>,
+)
+    ensures text { Puts O.bytes O.faults O.grows answer.old answer.new (event_line (event_of micros event.entry))
+        out.old out.new }
+    ensures bytes { IsOfBytes (arrival_of event.entry) }
+{
+    put_time(out, answer, micros);
+    put(out, answer, b" ");
+    put_arrival(out, answer, event);
+    put(out, answer, b"\n");
 }
 
 fn put_time<O: ByteSink>(out: &mut O, answer: &mut Result<(), SinkError>, micros: u64)
@@ -39,8 +54,9 @@ fn put_time<O: ByteSink>(out: &mut O, answer: &mut Result<(), SinkError>, micros
 }
 
 fn put_arrival<O: ByteSink>(out: &mut O, answer: &mut Result<(), SinkError>, event: ScriptEvent<'_>)
-    ensures { Puts O.bytes O.faults O.grows answer.old answer.new (arrival_text (arrival_of event.entry))
+    ensures text { Puts O.bytes O.faults O.grows answer.old answer.new (arrival_text (arrival_of event.entry))
         out.old out.new }
+    ensures bytes { IsOfBytes (arrival_of event.entry) }
 {
     match event {
         ScriptEvent::Tick => put(out, answer, b"tick"),
@@ -68,7 +84,8 @@ fn type_word(query_type: DnsType) -> &'static [u8]
 }
 
 fn put_hex_word<O: ByteSink>(out: &mut O, answer: &mut Result<(), SinkError>, bytes: &[u8])
-    ensures { Puts O.bytes O.faults O.grows answer.old answer.new (hex_word bytes.now) out.old out.new }
+    ensures text { Puts O.bytes O.faults O.grows answer.old answer.new (hex_word bytes.now) out.old out.new }
+    ensures bytes { All (λ byte. byte < 256) bytes.now }
 {
     match bytes {
         [] => {}
@@ -81,8 +98,9 @@ fn put_hex_word<O: ByteSink>(out: &mut O, answer: &mut Result<(), SinkError>, by
 }
 
 fn put_hex_bytes<O: ByteSink>(out: &mut O, answer: &mut Result<(), SinkError>, bytes: &[u8])
-    ensures { Puts O.bytes O.faults O.grows answer.old answer.new (flat_map hex_byte bytes.now)
+    ensures text { Puts O.bytes O.faults O.grows answer.old answer.new (flat_map hex_byte bytes.now)
         out.old out.new }
+    ensures bytes { All (λ byte. byte < 256) bytes.now }
 {
     for byte in bytes {
         put_hex_byte(out, answer, *byte);
@@ -97,7 +115,8 @@ fn put_hex_byte<O: ByteSink>(out: &mut O, answer: &mut Result<(), SinkError>, by
 }
 
 fn put_name<O: ByteSink>(out: &mut O, answer: &mut Result<(), SinkError>, name: &[u8])
-    ensures { Puts O.bytes O.faults O.grows answer.old answer.new (name_text name.now) out.old out.new }
+    ensures text { Puts O.bytes O.faults O.grows answer.old answer.new (name_text name.now) out.old out.new }
+    ensures bytes { All (λ byte. byte < 256) name.now }
 {
     match name {
         [] => put(out, answer, b"-"),
@@ -109,8 +128,9 @@ fn put_name<O: ByteSink>(out: &mut O, answer: &mut Result<(), SinkError>, name: 
 }
 
 fn put_name_bytes<O: ByteSink>(out: &mut O, answer: &mut Result<(), SinkError>, bytes: &[u8])
-    ensures { Puts O.bytes O.faults O.grows answer.old answer.new (flat_map name_byte bytes.now)
+    ensures text { Puts O.bytes O.faults O.grows answer.old answer.new (flat_map name_byte bytes.now)
         out.old out.new }
+    ensures bytes { All (λ byte. byte < 256) bytes.now }
 {
     for byte in bytes {
         put_name_byte(out, answer, *byte);

@@ -1,9 +1,8 @@
 //! A script in, its text out.
-ghost use Rattle.std.specs.Prelude.{◌≤◌, IfErr, OnOk};
-ghost use Rattle.script_text.specs.Outside.{outside_of, IsQuiet};
-ghost use Rattle.script_text.specs.Shown.{Shown, Leaves, HasCause, Completes};
+ghost use Rattle.std.specs.Prelude.{◌≡◌, ◌≤◌, IfErr, OnOk};
+ghost use Rattle.script_text.specs.Shown.{ReadsWhole, Stops, HasCause, Completes, PutsEvents};
 
-use crate::event_text;
+use crate::line::put_event;
 use net_wire::NoMemory;
 use phy_layers::{ByteSink, SinkError};
 use script_reader::{EventReader, ReadEventError};
@@ -19,8 +18,6 @@ pub enum ShowError {
     Limit,
     /// The source failed.
     Read,
-    /// The output failed.
-    Sink,
     /// Memory ran out.
     NoMemory,
 }
@@ -40,20 +37,6 @@ impl From<ReadEventError> for ShowError {
     }
 }
 
-impl From<SinkError> for ShowError {
-    ghost use Rattle.std.specs.Prelude.{◌≡◌};
-    ghost use Rattle.script_text.specs.ShowError.{of_sink};
-
-    ghost from_gives = { λ from error. error ≡ of_sink from };
-
-    fn from(error: SinkError) -> ShowError {
-        match error {
-            SinkError::Fault => ShowError::Sink,
-            SinkError::NoMemory => ShowError::NoMemory,
-        }
-    }
-}
-
 impl From<NoMemory> for ShowError {
     ghost use Rattle.std.specs.Prelude.{◌≡◌};
     ghost use Rattle.script_text.specs.declared.showing.ShowError.TheVariants as show;
@@ -65,29 +48,27 @@ impl From<NoMemory> for ShowError {
     }
 }
 
-/// Shows a script of at most `max_events`: writes the line of each event as it is read.
+/// Shows a script of at most `max_events`: writes the line of each event as it is read. `written` is what the sink
+/// answered so far: after a refusal nothing more is written, and the script is read all the same.
 pub fn show<S: ScriptSource, O: ByteSink>(
     alloc: Global,
     source: &mut S,
     max_events: u32,
     out: &mut O,
+    written: &mut Result<(), SinkError>,
 ) -> Result<(), ShowError>
     requires max { max_events ≤ 10000 }
-    // It ended well: the text of all events was written.
-    ensures shown { OnOk result (Shown max_events (outside_of S.ScriptSource O.ByteSink source.old out.old)
-        (outside_of S.ScriptSource O.ByteSink source.new out.new)) }
-    ensures quiet { OnOk result (IsQuiet (outside_of S.ScriptSource O.ByteSink source.old out.old)
-        (outside_of S.ScriptSource O.ByteSink source.new out.new)) }
-    // It stopped: what it took and wrote, and why.
-    ensures leaves { IfErr result (Leaves max_events (outside_of S.ScriptSource O.ByteSink source.old out.old)
-        (outside_of S.ScriptSource O.ByteSink source.new out.new)) }
-    ensures cause { IfErr result (HasCause max_events
-        (outside_of S.ScriptSource O.ByteSink source.old out.old)
-        (outside_of S.ScriptSource O.ByteSink source.new out.new)) }
-    ensures later { (S.faults source.old ≤ S.faults source.new) × (O.faults out.old ≤ O.faults out.new) }
+    ensures shown { OnOk result (ReadsWhole max_events (S.left source.old) (S.left source.new)
+        (PutsEvents O.ByteSink written.old written.new out.old out.new)) }
+    ensures quiet { OnOk result (S.faults source.new ≡ S.faults source.old) }
+    // It stopped: what it took, left and wrote, and why.
+    ensures leaves { IfErr result (Stops max_events (S.left source.old) (S.left source.new)
+        (PutsEvents O.ByteSink written.old written.new out.old out.new)) }
+    ensures cause { IfErr result (
+        HasCause max_events (S.left source.old) (S.faults source.old) (S.faults source.new)) }
+    ensures later { S.faults source.old ≤ S.faults source.new }
     // It stops without a cause only where memory runs out.
-    ensures complete { Completes max_events (outside_of S.ScriptSource O.ByteSink source.old out.old)
-        (outside_of S.ScriptSource O.ByteSink source.new out.new) result }
+    ensures complete { Completes max_events (S.left source.old) (S.faults source.old) (S.faults source.new) result }
 {
     let mut reader = EventReader::new(alloc)?;
     for _count in 0..max_events + 1 {
@@ -95,7 +76,7 @@ pub fn show<S: ScriptSource, O: ByteSink>(
             return Ok(());
         };
         let (_at, event) = reader.event(head);
-        event_text(head.micros, event, out)?;
+        put_event(out, written, head.micros, event);
     }
     unreachable!()
 }

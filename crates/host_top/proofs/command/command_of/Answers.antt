@@ -56,3 +56,19 @@ returns-in_err-serve_of-in-Serve-clause-refuses c =
     rw c.from_residual-in_err-serve_of-in-Serve.ensures
     (unwritten _ _ c.as_bytes.result.now keyword.Serve are (rw c.in-Serve.is at c.in_ok-keyword.ensures.found)
     (λ command written. c.in_err-serve_of-in-Serve.ensures.refuses written.0 written.2))
+
+pub returns-in_err-show_of-in-Show-clause-refuses : goal.returns-in_err-show_of-in-Show-clause-refuses
+returns-in_err-show_of-in-Show-clause-refuses c =
+    let are = opened string_bytes c.args.words.now c.name-item.result c.as_bytes.result.now c.in-len1-up.len_at_least c.name-item.is
+    c.as_bytes.ensures.value in
+    rw c.from_residual-in_err-show_of-in-Show.ensures
+    (unwritten _ _ c.as_bytes.result.now keyword.Show are (rw c.in-Show.is at c.in_ok-keyword.ensures.found)
+    (λ command written. c.in_err-show_of-in-Show.ensures.refuses written.0 written.2))
+
+pub returns-in_err-show_of-in-Frames-clause-refuses : goal.returns-in_err-show_of-in-Frames-clause-refuses
+returns-in_err-show_of-in-Frames-clause-refuses c =
+    let are = opened string_bytes c.args.words.now c.name-item.result c.as_bytes.result.now c.in-len1-up.len_at_least c.name-item.is
+    c.as_bytes.ensures.value in
+    rw c.from_residual-in_err-show_of-in-Frames.ensures
+    (unwritten _ _ c.as_bytes.result.now keyword.Frames are (rw c.in-Frames.is at c.in_ok-keyword.ensures.found)
+    (λ command written. c.in_err-show_of-in-Frames.ensures.refuses written.0 written.2))

@@ -1,4 +1,4 @@
-use Rattle.host_top.proofs.CommandLemmas.{asked_by, asked_command, asked_of_capture, no_work}
+use Rattle.host_top.proofs.CommandLemmas.{asked_by, asked_command, asked_to_read, no_work}
 use Rattle.host_top.proofs.CountLemmas.{counts_of}
 use Rattle.host_top.proofs.EndingLemmas.{refused_exactly, complete_named}
 use Rattle.host_top.proofs.StatusLemmas.{says}
@@ -41,4 +41,4 @@ returns-clause-queries g c = counts_of _ _ _ _ _ _ c.obey-finish.ensures.ended.e
 pub returns-clause-uncaptured : goal.returns-clause-uncaptured
 returns-clause-uncaptured g c = λ asks.
     c.obey-finish.ensures.uncaptured asks.0
-    (asked_of_capture _ _ asks (asked_by _ _ c.parse-asked.ensures.found c.parse-asked.ensures.refuses)) asks.2
+    (asked_to_read _ _ asks (asked_by _ _ c.parse-asked.ensures.found c.parse-asked.ensures.refuses)) asks.2

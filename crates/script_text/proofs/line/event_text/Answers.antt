@@ -1,8 +1,6 @@
--- One piece behind the other, and no other.
-use Rattle.capture_explain.proofs.TextLemmas.{puts_then}
+-- All pieces were handed on, and no other.
 use Rattle.script_text.proofs.LineLemmas.{all_put}
 use Rattle.script_text.proofs.line.event_text.Goals as goal
 
 pub returns : goal.returns
-returns g c =
-    record { text = all_put (puts_then (puts_then (puts_then c.put_time.ensures c.put.ensures) c.put_arrival.ensures) c.put-2.ensures) }
+returns g c = record { text = all_put c.put_event.ensures.text }

@@ -1,16 +1,17 @@
--- The events so far came, and their text was written.
+-- The events so far came, and their text was handed on.
 use Rattle.std.proofs.Common.{◌≡◌, ◌≤◌, false, IfSome}
-use Rattle.script_text.specs.Outside.{outside_of, IsQuiet}
+use Rattle.script_text.specs.Shown.{PutsEvents}
 use Rattle.script_text.proofs.ShownLemmas.{Progress}
 use Rattle.script_text.proofs.showing.show.Given as goal
 
 abbrev pub invariant-loop-count : goal.invariant-loop-count
 invariant-loop-count g l =
-    let before = outside_of g.S.ScriptSource g.O.ByteSink l.fn.source l.fn.out in
-    let now = outside_of g.S.ScriptSource g.O.ByteSink l.source l.out in
+    let left = g.S.ScriptSource.left in
+    let faults = g.S.ScriptSource.faults in
     record {
-      progress : Progress l.max_events before now l.reader;
-      quiet : IsQuiet before now;
+      progress : Progress l.max_events (left l.fn.source) (left l.source) l.reader
+          (PutsEvents g.O.ByteSink l.fn.written l.written l.fn.out l.out);
+      quiet : faults l.source ≡ faults l.fn.source;
       counted : l.reader.events ≡ l._count;
       within : l._count ≤ l.max_events;
       goes_on : l.reader.is_through ≡ false;
