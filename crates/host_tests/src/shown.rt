@@ -138,9 +138,19 @@ fn captures_of_runs_are_shown(rt: HostRuntime) -> Result<(), Fail> {
     assert!(rt; text[623..].starts_with(b"\n10.000000 frame ffffffffffff0202020202020800"));
     assert!(rt; text[623 + 1 + 624..] == b"\n# done\n"[..]);
     let first = run_words(rt.alloc(), &["frames", "1"], &[], run.captured.as_slice())?;
-    assert!(rt; first.status == 3);
-    assert!(rt; first.printed.as_slice().starts_with(&text[..624]));
-    assert!(rt; first.printed.as_slice()[624..] == b"# frame limit reached\n"[..]);
+    assert!(rt; first.status == 3 && first.printed.len() == 623 + 1 + 22);
+    assert!(rt;
+        first
+            .printed
+            .as_slice()
+            .starts_with(b"0.000000 frame ffffffffffff0202020202020800")
+    );
+    assert!(rt;
+        first
+            .printed
+            .as_slice()
+            .ends_with(b"\n# frame limit reached\n")
+    );
     Ok(())
 }
 
